@@ -1,0 +1,35 @@
+//! Runs each example script, and says whether it wrote what is expected of it.
+use script::run::run_script;
+use std::fs;
+use std::io;
+
+const NAMES: [&str; 6] = [
+    "alert-then-signal",
+    "broadcast",
+    "lost-signal",
+    "mutex",
+    "semaphore",
+    "signal-after-quit",
+];
+
+// Whether the example script of this name writes what is expected.
+fn as_expected(rt: &LibcRuntime, name: &str) -> io::Result<bool> {
+    let heap = rt.alloc();
+    let script = format!(heap, "{name}.script")?;
+    let expected = format!(heap, "{name}.expected")?;
+    let input = fs::read(rt, script.as_str())?;
+    let wanted = fs::read(rt, expected.as_str())?;
+    let written = run_script(heap, input.as_slice())?;
+    Ok(written.as_slice() == wanted.as_slice())
+}
+
+fn main(rt: LibcRuntime) -> io::Result<()> {
+    for name in NAMES {
+        if as_expected(&rt, name)? {
+            println!(rt, "{name}: as expected")?;
+        } else {
+            println!(rt, "{name}: differs")?;
+        }
+    }
+    Ok(())
+}

@@ -1,0 +1,9 @@
+pub mod Answers
+pub mod Places
+pub mod Lining
+pub mod Model
+pub mod View
+pub mod Build
+pub mod Work
+pub mod Turn
+pub mod Marked

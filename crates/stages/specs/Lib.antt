@@ -1,0 +1,4 @@
+pub mod Names
+pub mod Calls
+pub mod Table
+pub mod Marks

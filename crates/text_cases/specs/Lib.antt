@@ -1,0 +1,2 @@
+-- What the machine of the cases does.
+pub mod Toy

@@ -3,13 +3,23 @@ use script::run::run_script;
 use std::fs;
 use std::io;
 
-const NAMES: [&str; 6] = [
+// What is expected of `control` is wrong on purpose: the comparison must tell.
+const NAMES: [&str; 15] = [
     "alert-then-signal",
+    "alertp-leaves",
+    "alertwait-compare",
     "broadcast",
+    "control",
+    "join-before-test",
+    "limits",
+    "limits-ranked",
     "lost-signal",
     "mutex",
     "semaphore",
     "signal-after-quit",
+    "small-nub",
+    "wait-wakes",
+    "woken-alertp-tries",
 ];
 
 // Whether the example script of this name writes what is expected.

@@ -1,4 +1,4 @@
-// One entry of the store of arrivals.
+//! One entry of the store of arrivals.
 
 /// A thread that stands in a line.
 #[derive(Clone, Copy)]

@@ -1,4 +1,4 @@
-// The store that both kinds of lines keep: one array for the whole set.
+//! The store that both kinds of lines keep: one array for the whole set.
 ghost use mathlib.Core.Path.{_≡_};
 ghost use mathlib.Core.Bool.{true};
 ghost use Prim.Native.Nat.{_≤_};

@@ -1,4 +1,4 @@
-// Why an operation on a set of lines is declined.
+//! Why an operation on a set of lines is declined.
 ghost use mathlib.Core.Path.{_≡_};
 ghost use Rattle.lines.specs.Lines.{number as «number-of»};
 

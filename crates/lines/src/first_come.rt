@@ -1,4 +1,4 @@
-// Lines whose take gives the earliest arrival.
+//! Lines whose take gives the earliest arrival.
 ghost use mathlib.Core.List.{[]};
 ghost use Rattle.lines.specs.Held.{held};
 ghost use Rattle.lines.specs.Choosing.{first-come};

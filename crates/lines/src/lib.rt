@@ -1,4 +1,4 @@
-// Sets of waiting lines: the trait `LineSet`, and the two kinds `FirstCome` and `Ranked`.
+//! Sets of waiting lines: the trait `LineSet`, and the two kinds `FirstCome` and `Ranked`.
 mod arrival;
 mod arrivals;
 pub mod decline;

@@ -1,4 +1,4 @@
-// Lines whose take gives the member of the highest rank.
+//! Lines whose take gives the member of the highest rank.
 ghost use mathlib.Core.Path.{_≡_};
 ghost use mathlib.Core.List.{[]};
 ghost use Prim.Native.Nat.{_<_};

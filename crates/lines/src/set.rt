@@ -1,4 +1,4 @@
-// What a set of waiting lines is, whatever its kind.
+//! What a set of waiting lines is, whatever its kind.
 ghost use mathlib.Core.Path.{_≡_};
 ghost use mathlib.Core.List.{[]};
 ghost use Prim.Native.Nat.{ℕ, _≤_};

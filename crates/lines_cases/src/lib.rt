@@ -1,4 +1,4 @@
-// What sets of lines do on examples.
+//! What sets of lines do on examples.
 
 #[cfg(test)]
 mod tests {

@@ -1,7 +1,7 @@
 -- A submission's verdict by its ways.
 use mathlib.Core.Path.{_≡_, refl, sym, ap, _∙_}
 use mathlib.Core.Bool.{Bool, true, false, cond, not, _&&_}
-use mathlib.Core.List.{List, []}
+use mathlib.Core.List.{[]}
 use Prim.Native.Nat.{ℕ, _<_}
 use native.Mathlib.Omega.{arith}
 use lib.Dec.{eqb, ltb, leb}
@@ -12,7 +12,7 @@ use Rattle.std.specs.declared.result.Result.the-variants.{Ok, Err}
 use Rattle.std.proofs.shelf.Tests.{lt-ltb}
 use Rattle.stages.specs.Names.{CallKind, callNo, isIdle, counted}
 use Rattle.stages.specs.Names.CallKind.{NoCall, Acquire, Release, Wait, Signal, Broadcast, SemP, SemV, Alert, TestAlert, AlertP, AlertWait}
-use Rattle.stages.specs.Calls.{Object, isThis, requestOf, kindOf}
+use Rattle.stages.specs.Calls.{isThis, requestOf, kindOf}
 use Rattle.stages.specs.declared.call.Call.{Call}
 use Rattle.nub.specs.declared.Core.{Core}
 use Rattle.nub.specs.declared.Decline.{Decline}
@@ -20,27 +20,13 @@ use Rattle.nub.specs.declared.Decline.the-variants.{NoThread, UnderWay, NoCode
 use Rattle.nub.specs.Model.{exists, needsOwner, highCount, codeKind}
 use Rattle.nub.specs.View.{viewCore}
 use Rattle.nub.specs.Work.{threadAt, ownerAt, countAt}
-use Rattle.nub.specs.Turn.{existsIn, callBy, orNoCode, callOf, verdictIn}
+use Rattle.nub.specs.Turn.{callBy, orNoCode, callOf, verdictIn}
 
 -- the checks in their order
 abbrev pub chain : Bool → Bool → Bool → Bool → Bool → Bool → Option Decline
 chain a b c d e f =
     cond (not a) (some NoThread)
     (cond (not b) (some UnderWay) (cond c (some NoCode) (cond (not d) (some NoObject) (cond e (some NotOwner) (cond f (some CountHigh) none)))))
-
-exists-in : (k : Core) (l : Object → List ℕ) (d : CallKind) (x y : ℕ) → existsIn (k .sizes) d x y ≡ exists (viewCore k l) d x y
-exists-in k l NoCall x y = refl
-exists-in k l Acquire x y = refl
-exists-in k l Release x y = refl
-exists-in k l Wait x y = refl
-exists-in k l Signal x y = refl
-exists-in k l Broadcast x y = refl
-exists-in k l SemP x y = refl
-exists-in k l SemV x y = refl
-exists-in k l Alert x y = refl
-exists-in k l TestAlert x y = refl
-exists-in k l AlertP x y = refl
-exists-in k l AlertWait x y = refl
 
 own-for : (t : ℕ) (own : ℕ → Option ℕ) (d : CallKind) (x y : ℕ) → (needsOwner (kindOf (callBy d x y)) && not (isThis t (own (requestOf (callBy d x y) .x)))) ≡ (needsOwner d && not (isThis t (own x)))
 own-for t own NoCall x y = refl
@@ -140,7 +126,7 @@ module _ (k : Core) (t n a b : ℕ) where
 
   call-is : callOf (k .sizes) n a b ≡ means (codeKind n) B4 a b
   unfolding B4
-  call-is = ap (λ (z : Bool). means (codeKind n) z a b) (exists-in k (λ o. []) (codeKind n) a b)
+  call-is = refl
 
   pub way-refused : (d : Decline) → t < k .sizes .threads → isIdle (threadAt k t .stage) ≡ true → Err d ≡ callOf (k .sizes) n a b → verdictIn k t n a b ≡ some d
   unfolding B3

@@ -15,12 +15,12 @@ use Rattle.std.proofs.shelf.Bits.{one-shl}
 use lib.Seq.{getD-set-same, getD-set-other}
 use Rattle.lines.specs.Lines.{without, has}
 use Rattle.stages.specs.Names.{num}
-use Rattle.thread.specs.Turns.{idleThread}
+use Rattle.thread.specs.Turns.{idleThread, wokenThread}
 use Rattle.thread.specs.declared.record.Thread.{Thread}
 use Rattle.stages.specs.declared.step.LineEffect.{LineEffect}
 use Rattle.nub.specs.declared.Core.{Core}
 use Rattle.nub.specs.Model.{maskOf}
-use Rattle.nub.specs.Work.{withThreads, withCounts, countAt, keptOn, wakeFrom, wokenThread, signalled, freedMask}
+use Rattle.nub.specs.Work.{withThreads, withCounts, countAt, keptOn, wakeFrom, signalled, freedMask}
 use Rattle.nub.specs.Marked.{wakeMarked, signalledMarked, maskMarked}
 
 pub has-without : (n t : ℕ) (xs : List ℕ) → (n ≡ t → ⊥) → has n (without t xs) ≡ has n xs

@@ -5,11 +5,11 @@
 --   drainIn                   the lines once every member of line l is taken
 use Prim.Native.Nat.{ℕ, zero, suc}
 use mathlib.Core.Bool.{cond}
-use mathlib.Core.List.{List, [], _∷_}
+use mathlib.Core.List.{List, []}
 use lib.Dec.{ltb}
 use lib.ListN.{length}
 use Rattle.std.specs.declared.option.Option.{Option}
-use Rattle.std.specs.declared.option.Option.the-variants.{Some, None}
+use Rattle.std.specs.declared.option.Option.the-variants.{None}
 use Rattle.std.specs.declared.result.Result.{Result}
 use Rattle.std.specs.declared.result.Result.the-variants.{Ok, Err}
 use Rattle.lines.specs.declared.decline.Decline.{Decline}
@@ -44,7 +44,3 @@ drained K l (suc n) s = drained K l n (K .taken s l)
 
 abbrev pub drainIn : (K : Kind) → K .State → ℕ → K .State
 drainIn K s l = cond (ltb l lines) (drained K l (length (K .line s l)) s) s
-
-abbrev pub members : Option ℕ → List ℕ
-members None = []
-members (Some t) = t ∷ []

@@ -1,4 +1,5 @@
 -- The threads that a signal takes, given by a mark for each thread and not by a list.
+use Rattle.thread.specs.Turns.{wokenThread}
 use mathlib.Core.Bool.{Bool, false, cond, _||_}
 use mathlib.Core.List.{List, [], _∷_}
 use Prim.Native.Nat.{ℕ, _+_, _%_, _^_}
@@ -7,7 +8,7 @@ use Rattle.thread.specs.declared.record.Thread.{Thread}
 use Rattle.stages.specs.declared.step.LineEffect.{LineEffect}
 use Rattle.nub.specs.declared.Core.{Core}
 use Rattle.nub.specs.Model.{maskOf}
-use Rattle.nub.specs.Work.{withThreads, withCounts, countAt, keptOn, wokenThread}
+use Rattle.nub.specs.Work.{withThreads, withCounts, countAt, keptOn}
 
 -- the records with the marked ones woken
 abbrev pub wakeMarked : LineEffect → List Bool → List Thread → List Thread

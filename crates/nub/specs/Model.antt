@@ -10,14 +10,12 @@ use Prim.Native.Nat.{ℕ, zero, suc, _+_, _*_}
 use lib.Dec.{eqb, leb, ltb}
 use Rattle.std.specs.declared.option.Option.{Option}
 use Rattle.std.specs.declared.option.Option.the-variants.{None as none, Some as some}
-use Rattle.stages.specs.Names.{CallKind, callNo, isIdle, isWait, isAlertWait, isAlerted, counted, num}
+use Rattle.stages.specs.Names.{CallKind, callNo, isIdle, isWait, isAlerted, counted, num}
 use Rattle.stages.specs.Names.CallKind.{NoCall, Acquire, Release, Wait, Signal, Broadcast, SemP, SemV, Alert, TestAlert, AlertP, AlertWait}
 use Rattle.stages.specs.Calls.{Request, Object, gateOf, condOf, sameObject, elem, without, isEmpty, toList, isThis}
 use Rattle.stages.specs.Calls.Object.{mutex, condition}
-use Rattle.stages.specs.Table.{Seen, Row, row, isBetween, spinNew, first}
-use Rattle.thread.specs.Turns.{ThreadState, idle, moved}
-use Rattle.stages.specs.declared.stage.Stage.{Stage}
-use Rattle.stages.specs.declared.stage.Stage.the-variants.{Try, Choose}
+use Rattle.stages.specs.Table.{Seen, Row, row, spinNew, first}
+use Rattle.thread.specs.Turns.{ThreadState, idle, moved, wokenStage, betweenOn}
 use Rattle.stages.specs.declared.step.LineEffect.{LineEffect}
 use Rattle.stages.specs.declared.step.LineEffect.the-variants.{Keep as keepLine, JoinGate as joinGate, LeaveGate as leaveGate, JoinCondition as joinCond, LeaveCondition as leaveCond, WakeGate as wakeGate, SignalOne as signalOne, SignalAll as signalAll}
 use Rattle.stages.specs.declared.step.GateEffect.{GateEffect}
@@ -111,16 +109,6 @@ lineNew wakeGate t k l = without (λ u. elem u k) l
 lineNew signalOne t k l = without (λ u. elem u k) l
 lineNew signalAll t k l = without (λ u. elem u k) l
 
-abbrev pub wokenStage : LineEffect → CallKind → Stage
-wokenStage keepLine k = Try
-wokenStage joinGate k = Try
-wokenStage leaveGate k = Try
-wokenStage joinCond k = Try
-wokenStage leaveCond k = Try
-wokenStage wakeGate k = Try
-wokenStage signalOne k = cond (isAlertWait k) Choose Try
-wokenStage signalAll k = cond (isAlertWait k) Choose Try
-
 abbrev pub woken : LineEffect → ThreadState → ThreadState
 woken e h = record { stage = wokenStage e (h .call .kind); call = h .call; kept = h .kept; out = h .out }
 
@@ -173,10 +161,6 @@ does s t r k =
       spin = spinNew (r .spin) (s .spin);
     }
 
--- a thread between Read and the line of condition c
-abbrev pub betweenOn : ThreadState → ℕ → Bool
-betweenOn h c = isBetween (h .stage) (h .call .kind) && eqb (condOf (h .call)) c
-
 abbrev pub freedBy : NubState → ℕ → List ℕ → ℕ → Bool
 freedBy s c k u = elem u k || (betweenOn (s .thread u) c && eqb (s .thread u .kept) (s .counts c))
 
@@ -212,19 +196,23 @@ requestBy TestAlert x y = record { kind = TestAlert; x = 0; y = 0 }
 requestBy AlertP x y = record { kind = AlertP; x = x; y = 0 }
 requestBy AlertWait x y = record { kind = AlertWait; x = x; y = y }
 
+-- the objects that a call has exist, among t threads, m mutexes, c conditions and s semaphores
+abbrev pub existsAmong : ℕ → ℕ → ℕ → ℕ → CallKind → ℕ → ℕ → Bool
+existsAmong t m c s NoCall x y = false
+existsAmong t m c s Acquire x y = ltb x m
+existsAmong t m c s Release x y = ltb x m
+existsAmong t m c s Wait x y = ltb x m && ltb y c
+existsAmong t m c s Signal x y = ltb x c
+existsAmong t m c s Broadcast x y = ltb x c
+existsAmong t m c s SemP x y = ltb x s
+existsAmong t m c s SemV x y = ltb x s
+existsAmong t m c s Alert x y = ltb x t
+existsAmong t m c s TestAlert x y = true
+existsAmong t m c s AlertP x y = ltb x s
+existsAmong t m c s AlertWait x y = ltb x m && ltb y c
+
 abbrev pub exists : NubState → CallKind → ℕ → ℕ → Bool
-exists s NoCall x y = false
-exists s Acquire x y = ltb x (s .mutexes)
-exists s Release x y = ltb x (s .mutexes)
-exists s Wait x y = ltb x (s .mutexes) && ltb y (s .conditions)
-exists s Signal x y = ltb x (s .conditions)
-exists s Broadcast x y = ltb x (s .conditions)
-exists s SemP x y = ltb x (s .semaphores)
-exists s SemV x y = ltb x (s .semaphores)
-exists s Alert x y = ltb x (s .size)
-exists s TestAlert x y = true
-exists s AlertP x y = ltb x (s .semaphores)
-exists s AlertWait x y = ltb x (s .mutexes) && ltb y (s .conditions)
+exists s k x y = existsAmong (s .size) (s .mutexes) (s .conditions) (s .semaphores) k x y
 
 -- Release and the waits
 abbrev pub needsOwner : CallKind → Bool

@@ -18,7 +18,7 @@ use Rattle.stages.specs.Names.{CallKind, callNo}
 use Rattle.stages.specs.Names.CallKind.{NoCall, Acquire, Release, Wait, Signal, Broadcast, SemP, SemV, Alert, TestAlert, AlertP, AlertWait}
 use Rattle.stages.specs.Calls.{conditionOf, isEmpty}
 use Rattle.stages.specs.Table.{readsBit, readsLine, readsCount}
-use Rattle.thread.specs.Turns.{idle, stepAfter, threadAfter, started}
+use Rattle.thread.specs.Turns.{stepAfter, threadAfter, started}
 use Rattle.stages.specs.declared.call.Call.{Call}
 use Rattle.stages.specs.declared.call.Call.the-variants as call
 use Rattle.stages.specs.declared.stage.Stage.{Stage}
@@ -33,7 +33,7 @@ use Rattle.nub.specs.declared.Event.the-variants.{Submission as submission, Tu
 use Rattle.nub.specs.declared.Answer.{Answer}
 use Rattle.nub.specs.declared.Answer.the-variants.{Granted as granted, Declined as declined, Reported as reported}
 use Rattle.nub.specs.Places.{gateLine}
-use Rattle.nub.specs.Model.{verdict, byVerdict, codeKind, exists}
+use Rattle.nub.specs.Model.{verdict, byVerdict, codeKind, existsAmong}
 use Rattle.nub.specs.View.{byLine, viewCore}
 use Rattle.nub.specs.Work.{withThreads, threadAt, countAt, Done, performed}
 
@@ -97,8 +97,7 @@ callBy AlertWait a b = some (call.AlertWait a b)
 
 -- the objects that a call has exist, by the sizes
 abbrev pub existsIn : Sizes → CallKind → ℕ → ℕ → Bool
-existsIn z k x y =
-    exists (record { size = z .threads; mutexes = z .mutexes; conditions = z .conditions; semaphores = z .semaphores; thread = λ u. idle; flags = λ u. false; line = λ o. []; bits = λ o. false; owners = λ m. none; counts = λ i. 0; spin = false }) k x y
+existsIn z k x y = existsAmong (z .threads) (z .mutexes) (z .conditions) (z .semaphores) k x y
 
 abbrev pub orNoCode : Option Call → Result Call Decline
 orNoCode none = Err NoCode

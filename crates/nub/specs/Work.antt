@@ -15,9 +15,9 @@ use Rattle.std.specs.declared.option.Option.{Option}
 use Rattle.std.specs.declared.option.Option.the-variants.{None as none, Some as some}
 use Rattle.lines.specs.Lines.{has}
 use Rattle.lines.specs.Kinds.{Kind as LineKind}
-use Rattle.stages.specs.Calls.{kindOf, conditionOf}
+use Rattle.stages.specs.Calls.{conditionOf, toList}
 use Rattle.stages.specs.Table.{spinNew}
-use Rattle.thread.specs.Turns.{idleThread, stateOf}
+use Rattle.thread.specs.Turns.{idleThread, stateOf, betweenOn, wokenThread, flagged}
 use Rattle.stages.specs.declared.call.Call.{Call}
 use Rattle.thread.specs.declared.record.Thread.{Thread}
 use Rattle.stages.specs.declared.step.Step.{Step}
@@ -29,8 +29,8 @@ use Rattle.stages.specs.declared.step.FlagEffect.{FlagEffect}
 use Rattle.stages.specs.declared.step.FlagEffect.the-variants.{Keep as keepFlag, ClearOwn as clearOwn, SetNamed as setNamed}
 use Rattle.nub.specs.declared.Core.{Core}
 use Rattle.nub.specs.Places.{gateLine, mutexOf, alertedOf, lineIn}
-use Rattle.nub.specs.Lining.{addIn, removeIn, takeIn, whoIn, standing, drainIn, members}
-use Rattle.nub.specs.Model.{wokenStage, maskOf, betweenOn}
+use Rattle.nub.specs.Lining.{addIn, removeIn, takeIn, whoIn, standing, drainIn}
+use Rattle.nub.specs.Model.{maskOf}
 
 -- the arrays with one part changed
 abbrev pub withThreads : Core → List Thread → Core
@@ -72,9 +72,6 @@ ownersL freeGate t m l = setAt l m none
 abbrev pub gated : GateEffect → ℕ → Option Call → Core → Core
 gated e t c k = withGates k (bitsL e (gateLine c) (k .bits)) (ownersL e t (mutexOf c) (k .owners))
 
-abbrev pub flagged : Thread → Thread
-flagged h = record { alert = true; stage = h .stage; call = h .call; kept = h .kept; outcome = h .outcome }
-
 abbrev pub alertAt : Option ℕ → List Thread → List Thread
 alertAt none l = l
 alertAt (some x) l = set l x (flagged (getD l x idleThread))
@@ -89,10 +86,6 @@ abbrev pub applied : Step → ℕ → Option Call → Core → Core
 applied s t c k =
     let g : Core = gated (s .gate) t c (withSpin k (spinNew (s .spin) (k .spin))) in
     withThreads g (alertNamed (s .flag) (alertedOf c) (k .threads))
-
--- a thread taken from a line
-abbrev pub wokenThread : LineEffect → Thread → Thread
-wokenThread e h = record { alert = h .alert; stage = wokenStage e (kindOf (h .call)); call = h .call; kept = h .kept; outcome = h .outcome }
 
 -- the records from place n on, with those of us woken
 abbrev pub wakeFrom : LineEffect → List ℕ → ℕ → List Thread → List Thread
@@ -142,8 +135,8 @@ takenIn K joinGate o f = []
 takenIn K leaveGate o f = []
 takenIn K joinCond o f = []
 takenIn K leaveCond o f = []
-takenIn K wakeGate o f = members (oneOf K o f)
-takenIn K signalOne o f = members (oneOf K o f)
+takenIn K wakeGate o f = toList (oneOf K o f)
+takenIn K signalOne o f = toList (oneOf K o f)
 takenIn K signalAll o f = allOf K o f
 
 -- thread n is between on c and kept the count old

@@ -1,7 +1,16 @@
-//! The numbers of the declines.
+//! The numbers of the declines, and the codes of the calls.
 ghost use mathlib.Core.Path.{_≡_};
+ghost use Rattle.stages.specs.Names.{CallKind, callNo};
 ghost use Rattle.nub.specs.Answers.{declineNo};
+ghost use Rattle.nub.specs.Model.{codeKind};
 use crate::Decline;
+
+/// The code of each call is read as that call. What it returns means nothing.
+pub fn codes_agree() -> u8
+    ensures { λ _. ⌜ ((k : CallKind) → codeKind (callNo k) ≡ k) ⌝ }
+{
+    0
+}
 
 impl Decline {
     /// The number that stands for it outside.

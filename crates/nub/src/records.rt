@@ -5,9 +5,8 @@ ghost use Prim.Native.Nat.{_≤_, _<_};
 ghost use lib.Dec.{eqb};
 ghost use lib.ListN.{length, getD, set};
 ghost use Rattle.std.specs.declared.option.Option.the-variants.{Some};
-ghost use Rattle.thread.specs.Turns.{idleThread, stateOf, threadAfter, stepAfter, started};
-ghost use Rattle.nub.specs.Model.{betweenOn, maskOf};
-ghost use Rattle.nub.specs.Work.{wokenThread, flagged};
+ghost use Rattle.thread.specs.Turns.{idleThread, stateOf, threadAfter, stepAfter, started, betweenOn, wokenThread, flagged};
+ghost use Rattle.nub.specs.Model.{maskOf};
 ghost use Rattle.nub.specs.Marked.{wakeMarked};
 use crate::table;
 use stages::call::Call;
@@ -19,14 +18,14 @@ use thread::record::Thread;
 pub(crate) fn stage_at(threads: &[Thread], t: usize) -> Stage
     ensures { λ r. ⌜ r ≡ getD (now (threads .entry)) t idleThread .stage ⌝ }
 {
-    table::at(threads, t, Thread::new()).stage
+    table::at(threads, t, Thread::new()).stage()
 }
 
 /// The call of thread `t`; none where there is no such record.
 pub(crate) fn call_at(threads: &[Thread], t: usize) -> Option<Call>
     ensures { λ r. ⌜ r ≡ getD (now (threads .entry)) t idleThread .call ⌝ }
 {
-    table::at(threads, t, Thread::new()).call
+    table::at(threads, t, Thread::new()).call()
 }
 
 /// The call of thread `t` begins.
@@ -55,19 +54,8 @@ pub(crate) fn alert_at(threads: &mut [Thread], n: usize)
     ensures { λ _. ⌜ now (threads .exit) ≡ set (now (threads .entry)) n (flagged (getD (now (threads .entry)) n idleThread)) ⌝ }
 {
     if n < threads.len() {
-        threads[n].alert = true;
+        threads[n].set_alert();
     }
-}
-
-// A thread taken from a line: one in AlertWait, taken by a signal, has its outcome to choose, and any other tries its gate.
-fn wake(thread: &mut Thread, effect: LineEffect)
-    ensures { λ _. ⌜ now (thread .exit) ≡ wokenThread effect (now (thread .entry)) ⌝ }
-{
-    thread.stage = match (effect, thread.call) {
-        (LineEffect::SignalOne | LineEffect::SignalAll, Some(Call::AlertWait(_, _))) =>
-            Stage::Choose,
-        _ => Stage::Try,
-    };
 }
 
 /// Thread `n` was taken from a line.
@@ -75,7 +63,7 @@ pub(crate) fn wake_at(threads: &mut [Thread], n: usize, effect: LineEffect)
     ensures { λ _. ⌜ now (threads .exit) ≡ set (now (threads .entry)) n (wokenThread effect (getD (now (threads .entry)) n idleThread)) ⌝ }
 {
     if n < threads.len() {
-        wake(&mut threads[n], effect);
+        threads[n].wake(effect);
     }
 }
 
@@ -86,27 +74,8 @@ pub(crate) fn wake_marked(threads: &mut [Thread], effect: LineEffect, taken: &[b
 {
     for (n, thread) in threads.iter_mut().enumerate() {
         if taken[n] {
-            wake(thread, effect);
+            thread.wake(effect);
         }
-    }
-}
-
-// Whether it is in a wait on c, past Read and not yet in line, and kept the count `old`.
-fn between(thread: &Thread, c: usize, old: u32) -> bool
-    ensures { λ r. ⌜ r ≡ (betweenOn (stateOf (now (thread .entry))) c && eqb (now (thread .entry) .kept) old) ⌝ }
-{
-    match (thread.stage, thread.call) {
-        (
-            Stage::Clear
-            | Stage::Look
-            | Stage::WakeSpin
-            | Stage::Wake
-            | Stage::WakeOut
-            | Stage::BlockSpin
-            | Stage::Compare,
-            Some(Call::Wait(_, d) | Call::AlertWait(_, d)),
-        ) => d == c && thread.kept == old,
-        _ => false,
     }
 }
 
@@ -118,7 +87,7 @@ pub(crate) fn mask(threads: &[Thread], taken: &[bool], c: usize, old: u32) -> u6
 {
     let mut mask = 0;
     for (n, thread) in threads.iter().enumerate() {
-        if taken[n] || between(thread, c, old) {
+        if taken[n] || thread.is_between(c, old) {
             mask |= 1 << n;
         }
     }

@@ -4,9 +4,9 @@ ghost use mathlib.Core.Bool.{false, _||_};
 ghost use Prim.Native.Nat.{ℕ, _<_};
 ghost use lib.ListN.{length, getD};
 ghost use Rattle.lines.specs.Lines.{has};
-ghost use Rattle.stages.specs.Calls.{conditionOf};
+ghost use Rattle.stages.specs.Calls.{conditionOf, toList};
 ghost use Rattle.nub.specs.Places.{condLine};
-ghost use Rattle.nub.specs.Lining.{standing, drainIn, members};
+ghost use Rattle.nub.specs.Lining.{standing, drainIn};
 ghost use Rattle.nub.specs.View.{coreOf, linesOf};
 ghost use Rattle.nub.specs.Work.{oneLess, oneOf, allLess, allOf, wakeFrom, withThreads, signalledOn, freedMaskOn};
 ghost use Rattle.nub.specs.Marked.{signalledMarked, maskMarked};
@@ -22,7 +22,7 @@ use stages::step::*;
 // Takes a member of a line, if any, and marks it.
 fn mark_one<L: LineSet>(lines: &mut L, line: Option<usize>, taken: &mut [bool])
     ensures after { λ _. ⌜ L·LineSet .state (now (lines .exit)) ≡ oneLess (L·LineSet .kind) line (L·LineSet .state (now (lines .entry))) ⌝ }
-    ensures marks { λ _. ⌜ ((n : ℕ) → n < length (now (taken .entry)) → getD (now (taken .exit)) n false ≡ (getD (now (taken .entry)) n false || has n (members (oneOf (L·LineSet .kind) line (L·LineSet .state (now (lines .entry))))))) ⌝ }
+    ensures marks { λ _. ⌜ ((n : ℕ) → n < length (now (taken .entry)) → getD (now (taken .exit)) n false ≡ (getD (now (taken .entry)) n false || has n (toList (oneOf (L·LineSet .kind) line (L·LineSet .state (now (lines .entry))))))) ⌝ }
 {
     if let Some(t) = work::take_from(lines, line) {
         table::put(taken, t, true);
@@ -68,7 +68,7 @@ impl Core {
 impl<L: LineSet> Nub<L> {
     /// Takes from a gate's line, if it has a member.
     pub(crate) fn wake(&mut self, line: Option<usize>)
-        ensures core { λ _. ⌜ coreOf (now (self .exit)) ≡ withThreads (coreOf (now (self .entry))) (wakeFrom LineEffect.WakeGate (members (oneOf (L·LineSet .kind) line (L·LineSet .state (linesOf (now (self .entry)))))) 0 (coreOf (now (self .entry)) .threads)) ⌝ }
+        ensures core { λ _. ⌜ coreOf (now (self .exit)) ≡ withThreads (coreOf (now (self .entry))) (wakeFrom LineEffect.WakeGate (toList (oneOf (L·LineSet .kind) line (L·LineSet .state (linesOf (now (self .entry)))))) 0 (coreOf (now (self .entry)) .threads)) ⌝ }
         ensures lines { λ _. ⌜ L·LineSet .state (linesOf (now (self .exit))) ≡ oneLess (L·LineSet .kind) line (L·LineSet .state (linesOf (now (self .entry)))) ⌝ }
     {
         if let Some(t) = work::take_from(&mut self.lines, line) {
@@ -78,9 +78,9 @@ impl<L: LineSet> Nub<L> {
 
     /// Signal: takes one member of the condition's line, if any, and frees it and those between that kept the count.
     pub(crate) fn signal_one(&mut self, call: Option<Call>) -> u64
-        ensures core { λ _. ⌜ coreOf (now (self .exit)) ≡ signalledOn LineEffect.SignalOne (conditionOf call) (members (oneOf (L·LineSet .kind) (condLine call) (L·LineSet .state (linesOf (now (self .entry)))))) (coreOf (now (self .entry))) ⌝ }
+        ensures core { λ _. ⌜ coreOf (now (self .exit)) ≡ signalledOn LineEffect.SignalOne (conditionOf call) (toList (oneOf (L·LineSet .kind) (condLine call) (L·LineSet .state (linesOf (now (self .entry)))))) (coreOf (now (self .entry))) ⌝ }
         ensures lines { λ _. ⌜ L·LineSet .state (linesOf (now (self .exit))) ≡ oneLess (L·LineSet .kind) (condLine call) (L·LineSet .state (linesOf (now (self .entry)))) ⌝ }
-        ensures mask { λ r. ⌜ r ≡ freedMaskOn (conditionOf call) (members (oneOf (L·LineSet .kind) (condLine call) (L·LineSet .state (linesOf (now (self .entry)))))) (coreOf (now (self .entry))) ⌝ }
+        ensures mask { λ r. ⌜ r ≡ freedMaskOn (conditionOf call) (toList (oneOf (L·LineSet .kind) (condLine call) (L·LineSet .state (linesOf (now (self .entry)))))) (coreOf (now (self .entry))) ⌝ }
     {
         let Some(c) = places::condition_of(call) else {
             return 0;

@@ -19,7 +19,8 @@ use Rattle.stages.specs.declared.step.GateEffect.the-variants.{Keep as keepGate
 use Rattle.stages.specs.declared.step.FlagEffect.the-variants.{Keep as keepFlag, ClearOwn as clearOwn, SetNamed as setNamed}
 use Rattle.stages.specs.Table.OutcomeEffect.{keepOutcome, setSignalled, setAlerted}
 use Rattle.stages.specs.declared.marks.Stands.the-variants.{AtGate as atGate, AtCondition as atCond}
-use Rattle.stages.proofs.Finite.{table-at, fits, imp, no}
+use Rattle.stages.proofs.Finite.{table-at, imp, no}
+use Rattle.stages.specs.Pairs.{fits}
 use Rattle.runs.proofs.Small.{isStand, eqb-eq}
 use Rattle.runs.proofs.Agree.{ownsNow, isQuit, isKeepGate, isStanding}
 use Rattle.runs.specs.Published.{setWaits, setAlert, Published, isAction, nexts, total, answers, isFinished, doneBy, perform}

@@ -17,8 +17,10 @@ use Rattle.stages.specs.declared.step.LineEffect.the-variants.{Keep as keepLine
 use Rattle.stages.specs.declared.step.GateEffect.the-variants.{Keep as keepGate, Take as takeGate, Free as freeGate}
 use Rattle.stages.specs.declared.step.FlagEffect.the-variants.{Keep as keepFlag, ClearOwn as clearOwn, SetNamed as setNamed}
 use Rattle.stages.specs.declared.marks.Stands.the-variants.{Nowhere as nowhere, AtGate as atGate, AtCondition as atCond}
-use Rattle.stages.proofs.Finite.{table-at, fits, imp, no}
-use Rattle.runs.proofs.Small.{standsOk, isStand, standsBy}
+use Rattle.stages.proofs.Finite.{table-at, imp, no}
+use Rattle.stages.specs.Pairs.{fits}
+use Rattle.runs.proofs.Small.{standsOk, isStand}
+use Rattle.runs.specs.Reading.{standsBy}
 use Rattle.nub.specs.Model.{needsOwner}
 use Rattle.stages.specs.declared.stage.Stage.the-variants.{Idle, Try, Peek, LineSpin, Add, Test, Park, Parked, LeaveSpin, Leave, LeaveOut, Undo, UndoOut, Clear, Look, WakeSpin, Wake, WakeOut, Read, BlockSpin, Compare, BlockPark, Waiting, QuitSpin, Quit, BlockOut, Choose, SigSpin, Sig, SigOut, Set, Swap}
 use Rattle.stages.specs.Names.CallKind.{NoCall, Acquire, Release, Wait, Signal, Broadcast, SemP, SemV, Alert, TestAlert, AlertP, AlertWait}

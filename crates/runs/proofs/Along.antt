@@ -107,7 +107,7 @@ ran-next K k₀ f₀ es es′ as′ as″ k k′ f f′ e a h p q r u v =
     last = λ i. record { answers = sym whole i; core = sym u i; lines = sym v i }
 
 pub along-end : (K : LineKind) (es : List Event) (as′ : List Answer) (k : Core) (f : K .State) → Along K es as′ k f → Conformed K es as′ k f
-along-end K es as′ k f h = record { accepted = h .accepted; reading = subst (λ (p : Published). Rattle.runs.specs.Reading.Holds p (view K k f)) (sym (h .reads)) (at-end (view K k f) (h .sound .inv)) }
+along-end K es as′ k f h = record { accepted = h .accepted; reading = subst (λ (p : Published). Rattle.runs.specs.Reading.Holds p (view K k f)) (sym (h .reads)) (at-end (view K k f) (h .sound .inv)); marked = record { fitting = h .sound .inv .fit; standing = h .sound .inv .stood; spinning = h .sound .inv .spun } }
 
 -- a new nub
 lt-or : (a b : ℕ) → (a < b) ⊎ (b ≤ a)

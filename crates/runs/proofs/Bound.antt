@@ -13,12 +13,13 @@ use Rattle.stages.specs.declared.stage.Stage.{Stage}
 use Rattle.stages.specs.Table.{Seen, row, first}
 use Rattle.stages.specs.Marks.{marks}
 use Rattle.stages.specs.declared.step.LineEffect.{LineEffect}
-use Rattle.nub.specs.Model.{NubState, Pick, built, seen, rowOf, lineAt, wokenStage, woken, takenOf, does, signals, exists, checked, verdict, submitted, grantedTo, byVerdict, after, codeKind, requestBy, needsOwner}
-use Rattle.thread.specs.Turns.{ThreadState, moved}
+use Rattle.nub.specs.Model.{NubState, Pick, built, seen, rowOf, lineAt, woken, takenOf, does, signals, exists, checked, verdict, submitted, grantedTo, byVerdict, after, codeKind, requestBy, needsOwner}
+use Rattle.thread.specs.Turns.{ThreadState, moved, wokenStage}
 use Rattle.nub.specs.declared.Event.{Event}
 use Rattle.nub.specs.declared.Event.the-variants.{Submission as submission, Turn as turn}
 use Rattle.runs.specs.Runs.{Picks}
-use Rattle.stages.proofs.Finite.{table-at, fits, imp, imp-at, no, and-l, and-r}
+use Rattle.stages.proofs.Finite.{table-at, imp, imp-at, no, and-l, and-r}
+use Rattle.stages.specs.Pairs.{fits}
 use Rattle.runs.proofs.Small.{toT, eqb-eq, eqb-same, and-in, clash}
 use Rattle.runs.proofs.Agree.{by-idle, idle-is, isStanding}
 use Rattle.runs.proofs.Inv.{Inv, Taken, by-sort, stands-is, is-taken, does-inv}

@@ -14,11 +14,11 @@ use Rattle.lines.specs.Kinds.{Kind as LineKind, Laws, Picks as KindPicks}
 use Rattle.stages.specs.Calls.{Object, gateOf, condOf, sameObject, Request, requestOf}
 use Rattle.stages.specs.Names.{callNo, isIdle, isWait, CallKind, counted, hasGate}
 use Rattle.stages.specs.Calls.Object.{condition}
-use Rattle.stages.specs.Table.{Row, isBetween}
+use Rattle.stages.specs.Table.{Row, isBetween, readsLine}
 use Rattle.stages.specs.Marks.{marks}
 use Rattle.stages.specs.declared.marks.Stands.{Stands}
 use Rattle.stages.specs.declared.marks.Stands.the-variants.{Nowhere as nowhere, AtGate as atGate, AtCondition as atCond}
-use Rattle.thread.specs.Turns.{ThreadState, moved, idleThread, stateOf, stepped, stepOf, ownFlag}
+use Rattle.thread.specs.Turns.{ThreadState, moved, idleThread, stateOf, stepped, stepOf, ownFlag, betweenOn, flagged, wokenThread}
 use Rattle.stages.specs.declared.stage.Stage.{Stage}
 use Rattle.stages.specs.declared.stage.Stage.the-variants.{Idle}
 use Rattle.thread.specs.declared.record.Thread.{Thread}
@@ -27,20 +27,22 @@ use Rattle.stages.specs.declared.step.FlagEffect.{FlagEffect}
 use Rattle.stages.specs.declared.step.LineEffect.the-variants.{Keep as keepLine, JoinGate as joinGate, LeaveGate as leaveGate, JoinCondition as joinCond, LeaveCondition as leaveCond, WakeGate as wakeGate, SignalOne as signalOne, SignalAll as signalAll}
 use Rattle.stages.specs.declared.step.FlagEffect.the-variants.{Keep as keepFlag, ClearOwn as clearOwn, SetNamed as setNamed}
 use Rattle.nub.specs.declared.Core.{Core}
-use Rattle.nub.specs.Model.{NubState, seen, rowOf, lineAt, lineNew, takenOf, woken, signals, flagsNew, does, exists, maskOf, freedBy, betweenOn}
+use Rattle.nub.specs.Model.{NubState, seen, rowOf, lineAt, lineNew, takenOf, woken, signals, flagsNew, does, exists, maskOf, freedBy}
 use Rattle.nub.specs.Places.{lineNo, inRange, atLine}
 use Rattle.nub.specs.View.{byLine, byObj, view, picks}
 use Rattle.runs.proofs.Forms.{namedBy, freedAt, maskAt, appliedBy, Full, Sized}
-use Rattle.nub.specs.Work.{wokenThread, keptOn, countAt, threadAt, workedIn, takenIn, flagged, withThreads}
-use Rattle.stages.proofs.Finite.{fits, imp-at, no, and-l, and-r}
-use Rattle.runs.proofs.Small.{eqb-eq, object-same, isKeepLine, standsBy, isStand, standsPre, clash, not-in, not-out, standsOk, standsPost}
+use Rattle.nub.specs.Work.{keptOn, countAt, threadAt, workedIn, takenIn, withThreads}
+use Rattle.stages.proofs.Finite.{imp-at, no, and-l, and-r}
+use Rattle.stages.specs.Pairs.{fits}
+use Rattle.runs.proofs.Small.{eqb-eq, object-same, isKeepLine, isStand, standsPre, clash, not-in, not-out, standsOk, standsPost}
+use Rattle.runs.specs.Reading.{standsBy}
 use Rattle.runs.proofs.Agree.{isKeepGate, wakes, line-ok, by-idle, idle-is}
 use native.Mathlib.Nat.{suc-add, add-zero}
 use Rattle.nub.proofs.Taken.{mask-step, mask-ext}
 use Rattle.runs.specs.Runs.{Member, Picks}
 use Rattle.runs.proofs.Inv.{Taken, is-taken, stood-busy, cond-ap}
 use Rattle.runs.proofs.Bound.{Sound, sig-fits}
-use Rattle.runs.proofs.Ranges.{usesGate, usesCond, isNamed, gate-has, cond-has, named-has, sig-apart, gate-range, cond-range, named-range, line-range, gate-low}
+use Rattle.runs.proofs.Ranges.{usesGate, usesCond, isNamed, gate-has, cond-has, named-has, sig-apart, gate-range, cond-range, named-range, line-range, gate-low, reads-has}
 use Rattle.runs.proofs.Lists.{list-set, bits-view, owners-view, freed-bits, freed-owners, freed-spin, freed-sizes, freed-threads, freed-counts}
 use Rattle.runs.proofs.Lined.{lines-view, taken-view, granted-view}
 use Rattle.runs.specs.Granted.{LineGranted}
@@ -209,6 +211,9 @@ module _ (K : LineKind) (laws : Laws K) (k : Core) (f : K .State) (full : Full k
 
   gateL! : usesGate E ≡ true → inRange (gateOf C) ≡ true
   gateL! h = gate-range S C (fit .mutexes!) (fit .semaphores!) ex (imp-at (not (isKeepGate (R .gate)) || usesGate E) (hasGate (C .kind)) (gate-has (threadAt k t .stage) (C .kind) (seen S t) fit-now) (or-r (not (isKeepGate (R .gate))) (usesGate E) h))
+
+  pub read! : readsLine (threadAt k t .stage) ≡ true → inRange (gateOf C) ≡ true
+  read! h = gate-range S C (fit .mutexes!) (fit .semaphores!) ex (reads-has (threadAt k t .stage) (C .kind) (seen S t) fit-now h)
 
   cond! : usesCond E ≡ true → ltb (condOf C) 16 ≡ true
   cond! h = cond-range S C (fit .conditions!) ex (imp-at (usesCond E) (isWait (C .kind) || counted (C .kind)) (cond-has (threadAt k t .stage) (C .kind) (seen S t) fit-now) h)

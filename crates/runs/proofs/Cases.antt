@@ -1,7 +1,9 @@
+use Rattle.lines.specs.Lines.{stands}
 use mathlib.Core.Path.{refl}
 use Rattle.runs.specs.Cases.{Cases-hold}
 
 pub cases-hold : Cases-hold
+unfolding stands
 cases-hold =
     record {
       acquire-free = refl;

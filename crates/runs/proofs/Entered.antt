@@ -1,22 +1,21 @@
 -- One entry of a run, granted or declined: its answer and what it leaves are those of the rules.
 use mathlib.Core.Bool.{_||_}
 use mathlib.Core.Path.{_≡_, refl, sym, _∙_, ap, subst}
-use mathlib.Core.Bool.{Bool, true, false, not, _&&_, cond}
-use mathlib.Core.List.{List, []}
+use mathlib.Core.Bool.{Bool, true, false, not, cond}
+use mathlib.Core.List.{List}
 use Rattle.std.specs.declared.option.Option.{Option}
 use Rattle.std.specs.declared.option.Option.the-variants.{None as none, Some as some}
 use Prim.Native.Nat.{ℕ, _+_, _-_, _%_, _^_, _≤_, _<_}
-use lib.Dec.{eqb, leb, ltb}
+use lib.Dec.{eqb, ltb}
 use lib.ListN.{length, getD, set, length-set}
 use native.Mathlib.Omega.{arith}
 use Rattle.std.proofs.shelf.Tests.{ltb-true, ltb-false}
 use Rattle.lines.specs.Kinds.{Kind as LineKind, Laws}
-use Rattle.stages.specs.Calls.{Object, gateOf, condOf, isThis, Request, requestOf}
-use Rattle.stages.specs.Names.{callNo, isIdle, num, CallKind, counted}
+use Rattle.stages.specs.Calls.{Object, gateOf, condOf, Request, requestOf}
+use Rattle.stages.specs.Names.{isIdle, num}
 use Rattle.stages.specs.Calls.Object.{mutex, semaphore, condition}
-use Rattle.stages.specs.Table.{Row, first}
-use Rattle.thread.specs.Turns.{idleThread, stateOf, stepped, stepOf, started, rowBy}
-use Rattle.stages.specs.Names.CallKind.{NoCall, Acquire, Release, Wait, Signal, Broadcast, SemP, SemV, Alert, TestAlert, AlertP, AlertWait}
+use Rattle.stages.specs.Table.{Row, first, readsLine}
+use Rattle.thread.specs.Turns.{idleThread, stateOf, stepped, stepOf, started, rowBy, flagged}
 use Rattle.thread.specs.declared.record.Thread.{Thread}
 use Rattle.stages.specs.declared.step.Step.{Step}
 use Rattle.stages.specs.declared.step.LineEffect.{LineEffect}
@@ -26,10 +25,10 @@ use Rattle.stages.specs.declared.step.LineEffect.the-variants.{Keep as keepLine
 use Rattle.stages.specs.declared.step.GateEffect.the-variants.{Keep as keepGate, Take as takeGate, Free as freeGate}
 use Rattle.stages.specs.declared.step.FlagEffect.the-variants.{Keep as keepFlag, ClearOwn as clearOwn, SetNamed as setNamed}
 use Rattle.nub.specs.declared.Core.{Core}
-use Rattle.nub.specs.Model.{rowOf, lineAt, exists, verdict, byVerdict, after, answer, submitted, requestBy, codeKind, needsOwner, grantedTo, grantOf}
+use Rattle.nub.specs.Model.{rowOf, lineAt, verdict, byVerdict, after, answer, submitted, requestBy, codeKind, grantedTo, grantOf}
 use Rattle.nub.specs.Places.{atLine}
-use Rattle.nub.specs.View.{byObj, viewCore, view, picks}
-use Rattle.nub.specs.Work.{bitsL, wakeFrom, countAt, threadAt, takenIn, flagged, withThreads, setAt}
+use Rattle.nub.specs.View.{view, picks}
+use Rattle.nub.specs.Work.{bitsL, wakeFrom, countAt, threadAt, takenIn, withThreads, setAt}
 use Rattle.runs.proofs.Forms.{ownersBy, namedBy, freedAt, appliedBy, performedBy, Full, Sized}
 use Rattle.nub.specs.Turn.{turned, reports, refused, Moved, moves, verdictIn, answerIn, callBy, sightOf}
 use Rattle.runs.proofs.Small.{eqb-eq}
@@ -37,14 +36,14 @@ use Rattle.lines.specs.Lines.{Sound as LineSound}
 use Rattle.nub.specs.declared.Event.{Event}
 use Rattle.nub.specs.declared.Event.the-variants.{Submission as submission, Turn as turn}
 use Rattle.nub.specs.declared.Answer.the-variants.{Granted as granted, Declined as declined, Reported as reported}
-use Rattle.nub.proofs.Checked.{chain}
 use Rattle.nub.proofs.Turned.{turned-out, turned-idle}
-use Rattle.runs.proofs.Placed.{turned-busy, request-by, cond-some, line-by, row-same}
-use Rattle.runs.specs.Granted.{LineGranted, JoinGranted, LeaveGranted, TakeGranted, Room, CountFits, TurnGranted, EventGranted}
-use Rattle.runs.proofs.Ranges.{usesGate, usesCond, gate-has, cond-has}
+use Rattle.runs.proofs.Placed.{turned-busy, request-by, cond-some, gate-line, line-by, row-same}
+use Rattle.runs.specs.Granted.{LineGranted, JoinGranted, LeaveGranted, TakeGranted, AskGranted, Room, CountFits, TurnGranted, EventGranted}
+use Rattle.runs.proofs.Ranges.{usesGate, usesCond, gate-has, cond-has, reads-has, line-low}
+use Rattle.runs.proofs.Lined.{ask-ok}
 use Rattle.std.proofs.shelf.Tests.{or-right}
 use Rattle.runs.proofs.Agree.{isKeepGate}
-use Rattle.nub.specs.Places.{lineIn}
+use Rattle.nub.specs.Places.{lineIn, gateLine, lineNo}
 use Rattle.nub.specs.Model.{seen, signals}
 use Rattle.stages.proofs.Finite.{imp-at}
 use Rattle.stages.specs.Names.{hasGate, hasCond}
@@ -55,27 +54,11 @@ use Rattle.stages.specs.declared.call.Call.{Call}
 use Rattle.runs.proofs.Inv.{cond-ap}
 use Rattle.runs.proofs.Submit.{is-granted}
 use Rattle.runs.proofs.Bound.{Sound, sig-fits}
-use Rattle.runs.proofs.Lists.{list-set, wake-length}
-use Rattle.runs.proofs.Bridge.{nub-path, does-view, mask-view, granted-now}
-
-exists-two : (k : Core) (l l′ : Object → List ℕ) (d : CallKind) (x y : ℕ) → exists (viewCore k l) d x y ≡ exists (viewCore k l′) d x y
-exists-two k l l′ NoCall x y = refl
-exists-two k l l′ Acquire x y = refl
-exists-two k l l′ Release x y = refl
-exists-two k l l′ Wait x y = refl
-exists-two k l l′ Signal x y = refl
-exists-two k l l′ Broadcast x y = refl
-exists-two k l l′ SemP x y = refl
-exists-two k l l′ SemV x y = refl
-exists-two k l l′ Alert x y = refl
-exists-two k l l′ TestAlert x y = refl
-exists-two k l l′ AlertP x y = refl
-exists-two k l l′ AlertWait x y = refl
+use Rattle.runs.proofs.Lists.{list-set, wake-length, at-in}
+use Rattle.runs.proofs.Bridge.{nub-path, does-view, mask-view, granted-now, read! }
 
 pub verdict-same : (K : LineKind) (k : Core) (f : K .State) (t n a b : ℕ) → verdictIn k t n a b ≡ verdict (view K k f) (submission t n a b)
-verdict-same K k f t n a b =
-    ap (λ (z : Bool). chain (ltb t (k .sizes .threads)) (isIdle (threadAt k t .stage)) (eqb (callNo (codeKind n)) 0) z (needsOwner (codeKind n) && not (isThis t (getD (k .owners) a none))) (counted (codeKind n) && leb 4294967232 (countAt k a)))
-    (exists-two k (λ o. []) (λ o. byObj [] (K .line f) o) (codeKind n) a b)
+verdict-same K k f t n a b = refl
 
 started-alert : (l : List Thread) (t : ℕ) (c : Option Call) (u : ℕ) → t < length l → getD (set l t (started c (getD l t idleThread))) u idleThread .alert ≡ getD l u idleThread .alert
 started-alert l t c u h = ap (λ (z : Thread). z .alert) (list-set idleThread l t (started c (getD l t idleThread)) u h) ∙ go (eqb t u) refl
@@ -262,19 +245,26 @@ module _ (K : LineKind) (laws : Laws K) (k : Core) (f : K .State) (full : Full k
       cond! : usesCond (rowOf (view K k f) t .line) ≡ true → hasCond (kindOf (threadAt k t .call)) ≡ true
       cond! h = imp-at (usesCond (rowOf (view K k f) t .line)) (hasCond (kindOf (threadAt k t .call))) (cond-has (threadAt k t .stage) (kindOf (threadAt k t .call)) (seen (view K k f) t) (so .inv .fit t)) h
 
-      with-row : isIdle (threadAt k t .stage) ≡ false → (r : Row) → rowOf (view K k f) t ≡ r → LineGranted K (r .line) (lineIn (r .line) (threadAt k t .call)) f t × CountFits (r .line) (conditionOf (threadAt k t .call)) k
+      asked : isIdle (threadAt k t .stage) ≡ false → readsLine (threadAt k t .stage) ≡ true → AskGranted K (gateLine (threadAt k t .call)) f
+      asked busy h =
+          let r = read! K laws k f full ls fit so t busy h in
+          let g = gateOf (requestOf (threadAt k t .call)) in
+          subst (λ (o : Option ℕ). AskGranted K o f) (sym (gate-line (threadAt k t .call) (reads-has (threadAt k t .stage) (kindOf (threadAt k t .call)) (seen (view K k f) t) (so .inv .fit t) h) ∙ at-in g r)) (ask-ok K laws (lineNo g) f (line-low g r))
+
+      with-row : isIdle (threadAt k t .stage) ≡ false → (r : Row) → rowOf (view K k f) t ≡ r → LineGranted K (r .line) (lineIn (r .line) (threadAt k t .call)) f t × CountFits (r .line) (conditionOf (threadAt k t .call)) k × (readsLine (threadAt k t .stage) ≡ true → AskGranted K (gateLine (threadAt k t .call)) f)
       with-row busy r q =
-          subst (λ (x : Row). LineGranted K (x .line) (lineIn (x .line) (threadAt k t .call)) f t × CountFits (x .line) (conditionOf (threadAt k t .call)) k) q (
+          subst (λ (x : Row). LineGranted K (x .line) (lineIn (x .line) (threadAt k t .call)) f t × CountFits (x .line) (conditionOf (threadAt k t .call)) k × (readsLine (threadAt k t .stage) ≡ true → AskGranted K (gateLine (threadAt k t .call)) f)) q (
             moved-line (rowOf (view K k f) t .line) (threadAt k t .call) t gate! cond! (granted-now K laws k f full ls fit so t busy),
             room (rowOf (view K k f) t .line) (threadAt k t .call) cond! (λ h. sig-fits (view K k f) t so busy h),
+            asked busy,
           )
 
       go : (b : Bool) → isIdle (threadAt k t .stage) ≡ b → cond b none (some (stepOf (rowBy (threadAt k t) (sightOf K k f t)))) ≡ some s
-          → LineGranted K (s .line) (lineIn (s .line) (threadAt k t .call)) f t × CountFits (s .line) (conditionOf (threadAt k t .call)) k
+          → LineGranted K (s .line) (lineIn (s .line) (threadAt k t .call)) f t × CountFits (s .line) (conditionOf (threadAt k t .call)) k × (readsLine (threadAt k t .stage) ≡ true → AskGranted K (gateLine (threadAt k t .call)) f)
       go true p q = let z : _≡_ {A = ℕ} 0 1 = cc in let y : ⊥ = omega arith in absurd y
       go false p q =
           let z : stepOf (rowBy (threadAt k t) (sightOf K k f t)) ≡ s = cc in
-          subst (λ (x : Step). LineGranted K (x .line) (lineIn (x .line) (threadAt k t .call)) f t × CountFits (x .line) (conditionOf (threadAt k t .call)) k) z
+          subst (λ (x : Step). LineGranted K (x .line) (lineIn (x .line) (threadAt k t .call)) f t × CountFits (x .line) (conditionOf (threadAt k t .call)) k × (readsLine (threadAt k t .stage) ≡ true → AskGranted K (gateLine (threadAt k t .call)) f)) z
           (with-row p (rowBy (threadAt k t) (sightOf K k f t)) (sym (row-same K k f t (so .inv .fit t))))
 
   pub event-granted : (e : Event) → EventGranted K k f e

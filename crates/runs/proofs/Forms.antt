@@ -11,7 +11,7 @@ use Rattle.lines.specs.Kinds.{Kind as LineKind}
 use Rattle.stages.specs.Calls.{Request, Object, gateOf, condOf}
 use Rattle.stages.specs.Calls.Object.{mutex, semaphore, condition}
 use Rattle.stages.specs.Table.{spinNew}
-use Rattle.thread.specs.Turns.{idleThread}
+use Rattle.thread.specs.Turns.{idleThread, flagged}
 use Rattle.thread.specs.declared.record.Thread.{Thread}
 use Rattle.stages.specs.declared.step.Step.{Step}
 use Rattle.stages.specs.declared.step.LineEffect.{LineEffect}
@@ -24,7 +24,7 @@ use Rattle.nub.specs.declared.Core.{Core}
 use Rattle.nub.specs.declared.Sizes.{Sizes}
 use Rattle.nub.specs.Places.{atLine}
 use Rattle.nub.specs.Model.{lineAt, signals, maskOf}
-use Rattle.nub.specs.Work.{Done, withThreads, withSpin, withGates, countAt, keptOn, bitsL, flagged, wakeFrom, signalled, workedIn, takenIn}
+use Rattle.nub.specs.Work.{Done, withThreads, withSpin, withGates, countAt, keptOn, bitsL, wakeFrom, signalled, workedIn, takenIn}
 
 -- sizes that a build over lines that serve so many threads can have
 pub record Sized (serves : ℕ) (z : Sizes) : Type 0 where

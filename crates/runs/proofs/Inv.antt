@@ -23,12 +23,14 @@ use Rattle.stages.specs.declared.step.LineEffect.the-variants.{Keep as keepLine
 use Rattle.stages.specs.declared.step.GateEffect.the-variants.{Keep as keepGate, Take as takeGate, Free as freeGate}
 use Rattle.stages.specs.declared.marks.Stands.the-variants.{Nowhere as nowhere, AtGate as atGate, AtCondition as atCond}
 use Rattle.stages.specs.declared.stage.Stage.the-variants.{Try, Choose}
-use Rattle.nub.specs.Model.{NubState, Pick, seen, rowOf, lineAt, taken, lineNew, wokenStage, woken, takenOf, does, flagsNew, bitsNew, ownersNew, countsNew, signals}
-use Rattle.thread.specs.Turns.{ThreadState, moved}
+use Rattle.nub.specs.Model.{NubState, Pick, seen, rowOf, lineAt, taken, lineNew, woken, takenOf, does, flagsNew, bitsNew, ownersNew, countsNew, signals}
+use Rattle.thread.specs.Turns.{ThreadState, moved, wokenStage}
 use Rattle.runs.specs.Runs.{Member, Picks}
 use Rattle.runs.specs.Reading.{onWay}
-use Rattle.stages.proofs.Finite.{fits, imp, imp-at, no, and-l, and-r}
-use Rattle.runs.proofs.Small.{eqb-eq, eqb-same, eqb-of, same-object, inNew, elem-new, standsBy, standsOk, stood-self, isStand, and-in, not-in, or-else, not-out, clash}
+use Rattle.stages.proofs.Finite.{imp, imp-at, no, and-l, and-r}
+use Rattle.stages.specs.Pairs.{fits}
+use Rattle.runs.proofs.Small.{eqb-eq, eqb-same, eqb-of, same-object, inNew, elem-new, standsOk, stood-self, isStand, and-in, not-in, or-else, not-out, clash}
+use Rattle.runs.specs.Reading.{standsBy}
 use Rattle.runs.proofs.Agree.{fit-ok, line-ok, spin-ok, wake-spin, own-ok, take-ok, free-ok, quit-ok, kept-ok, way-free, way-join, way-keep, rest-way, rest-gate, rest-cond, idle-stands, by-idle, wakes, spinOk, isKeepGate, isKeepFlag, isStanding, ownsNow, isQuit}
 
 abbrev pub standsAt : ThreadState → Object → Bool

@@ -23,7 +23,7 @@ use Rattle.nub.specs.Turn.{rowDone, sightOf, refused, steps, moves}
 use Rattle.nub.specs.Places.{lineIn}
 use Rattle.nub.specs.declared.Decline.the-variants.{NoThread}
 use Rattle.runs.specs.Granted.{AllGranted}
-use Rattle.runs.proofs.Entered.{event-granted}
+use Rattle.runs.proofs.Entered.{entered, event-granted}
 use Rattle.nub.specs.Build.{builtSizes}
 use Prim.Native.Nat.{_≤_}
 use Rattle.stages.proofs.Finite.{no, and-l, and-r}
@@ -37,7 +37,7 @@ use Rattle.std.specs.declared.result.Result.the-variants.{Ok, Err}
 use Rattle.lines.specs.declared.decline.Decline.{Decline}
 use Rattle.lines.specs.declared.decline.Decline.the-variants.{NoSuchLine, NotServed, AlreadyInSet, NotInLine}
 use Rattle.nub.specs.Lining.{addIn, removeIn, takeIn, drained, drainIn}
-use Rattle.runs.specs.Replay.{ran, Runs-over}
+use Rattle.runs.specs.Replay.{ran, Ruled, Runs-over}
 use Rattle.runs.proofs.Lined.{distinct-less}
 use Rattle.runs.proofs.Along.{Along, built-sized, along-none, along-more, along-end}
 
@@ -252,6 +252,15 @@ module _ (K : LineKind) (laws : Laws K) where
     granted-run es (es₀ ++ (e ∷ [])) (as₀ ++ (moves K k f e .answer ∷ [])) (moves K k f e .core) (moves K k f e .lines) (kept-moves k f e s) (along-more K laws es₀ as₀ k f e s h),
   )
 
+  ruled-run : (es : List Event) (es₀ : List Event) (as₀ : List Answer) (k : Core) (f : K .State) → LineSound (K .serves) (K .line f) → Along K es₀ as₀ k f → Ruled K k f es
+  ruled-run [] es₀ as₀ k f s h = tt
+  ruled-run (e ∷ es) es₀ as₀ k f s h =
+      let n = entered K laws k f (h .full) s (h .fit) (h .sound) e in (
+        n .answer!,
+        n .after!,
+        ruled-run es (es₀ ++ (e ∷ [])) (as₀ ++ (moves K k f e .answer ∷ [])) (moves K k f e .core) (moves K k f e .lines) (kept-moves k f e s) (along-more K laws es₀ as₀ k f e s h),
+      )
+
   along-run : (es′ : List Event) (es : List Event) (as′ : List Answer) (k : Core) (f : K .State) → LineSound (K .serves) (K .line f) → Along K es as′ k f
       → Along K (es ++ es′) (as′ ++ ran K k f es′ .answers) (ran K k f es′ .core) (ran K k f es′ .lines)
   along-run [] es as′ k f s h =
@@ -273,7 +282,7 @@ module _ (K : LineKind) (laws : Laws K) where
       }
 
   pub runs-over : (1 ≤ K .serves) × (K .serves ≤ 64) → Runs-over K
-  runs-over o asked n f es b h = record { conformed = along-end K es _ _ _ (along-run es [] [] (builtCore (builtSizes (K .serves) asked) n) f sound new); granted = granted-run es [] [] (builtCore (builtSizes (K .serves) asked) n) f sound new }
+  runs-over o asked n f es b h = record { conformed = along-end K es _ _ _ (along-run es [] [] (builtCore (builtSizes (K .serves) asked) n) f sound new); granted = granted-run es [] [] (builtCore (builtSizes (K .serves) asked) n) f sound new; ruled = ruled-run es [] [] (builtCore (builtSizes (K .serves) asked) n) f sound new }
     where
       sound : LineSound (K .serves) (K .line f)
       sound = empty-sound (K .line f) h

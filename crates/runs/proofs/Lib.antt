@@ -16,4 +16,4 @@ mod Lined
 mod Bridge
 mod Entered
 mod Along
-mod Kept
+pub mod Kept

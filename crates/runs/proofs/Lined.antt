@@ -26,11 +26,11 @@ use Rattle.std.specs.declared.result.Result.{Result}
 use Rattle.std.specs.declared.result.Result.the-variants.{Ok, Err}
 use Rattle.lines.specs.declared.decline.Decline.{Decline}
 use Rattle.lines.specs.declared.decline.Decline.the-variants.{NoSuchLine, NotServed, AlreadyInSet, NotInLine}
-use Rattle.nub.specs.Lining.{addIn, removeIn, takeIn, whoIn, standing, drained, drainIn, members}
+use Rattle.nub.specs.Lining.{addIn, removeIn, takeIn, whoIn, standing, drained, drainIn}
 use Rattle.nub.specs.Lining.{who}
 use Rattle.runs.proofs.Lists.{view-put, obj-in, at-in}
 use Rattle.runs.specs.Granted.{LineGranted, JoinGranted, LeaveGranted, TakeGranted}
-use Rattle.lines.specs.Lines.{take-answer}
+use Rattle.lines.specs.Lines.{take-answer, empty-answer, none as noneIn}
 
 eqb-sym : (a b : ℕ) → eqb a b ≡ eqb b a
 eqb-sym a b = grind arith
@@ -54,7 +54,7 @@ without-one t [] = refl
 without-one t (x ∷ xs) =
     ap (λ (ys : List ℕ). cond (eqb x t) ys (x ∷ ys)) (without-one t xs) ∙ ap (λ (b : Bool). cond b (without (λ u. has u (t ∷ [])) xs) (x ∷ without (λ u. has u (t ∷ [])) xs)) (eqb-sym x t ∙ or-f (eqb t x))
 
-minus-is : (o : Option ℕ) (xs : List ℕ) → minus o xs ≡ without (λ u. has u (members o)) xs
+minus-is : (o : Option ℕ) (xs : List ℕ) → minus o xs ≡ without (λ u. has u (toList o)) xs
 minus-is none xs = without-none xs
 minus-is (some t) xs = without-one t xs
 
@@ -188,11 +188,14 @@ module _ (K : LineKind) (laws : Laws K) (l : ℕ) where
     pub take-ok : take-answer (K .next f) l ≡ Ok (K .next f l)
     take-ok = ap (λ (b : Bool). cond {A = Result (Option ℕ) Decline} b (Ok (K .next f l)) (Err NoSuchLine)) low′
 
-    pub take-line : K .line (takeIn K f l) ≡ put (K .line f) l (without (λ u. has u (members (whoIn K f l))) (K .line f l))
+    pub ask-ok : empty-answer (K .line f) l ≡ Ok (noneIn (K .line f l))
+    ask-ok = ap (λ (b : Bool). cond {A = Result Bool Decline} b (Ok (noneIn (K .line f l))) (Err NoSuchLine)) low′
+
+    pub take-line : K .line (takeIn K f l) ≡ put (K .line f) l (without (λ u. has u (toList (whoIn K f l))) (K .line f l))
     take-line =
         ap (λ (b : Bool). K .line (afterIn (cond {A = Result (Option ℕ) Decline} b (Ok (K .next f l)) (Err NoSuchLine)) (K .taken f l) f)) low′
         ∙ laws .after-take f l
-        ∙ ap (λ (xs : List ℕ). put (K .line f) l xs) (minus-is (K .next f l) (K .line f l) ∙ ap (λ (o : Option ℕ). without (λ u. has u (members o)) (K .line f l)) (sym who-next))
+        ∙ ap (λ (xs : List ℕ). put (K .line f) l xs) (minus-is (K .next f l) (K .line f l) ∙ ap (λ (o : Option ℕ). without (λ u. has u (toList o)) (K .line f l)) (sym who-next))
 
     pub drain-line : distinct (K .line f l) ≡ true → K .line (drainIn K f l) ≡ put (K .line f) l (without (λ u. has u (standing K f l)) (K .line f l))
     drain-line d =
@@ -313,12 +316,8 @@ pub taken-view : (K : LineKind) (laws : Laws K) (f : K .State) (e : LineEffect) 
     → takenIn K e (atLine (lineAt e c)) f ≡ taken e (picks K f (lineAt e c)) (byObj [] (K .line f) (lineAt e c))
 taken-view K laws f e c ran = go e ran
   where
-    to-list : (o : Option ℕ) → members o ≡ toList o
-    to-list none = refl
-    to-list (some u) = refl
-
-    one : (o : Object) → inRange o ≡ true → members (whoIn K f (lineNo o)) ≡ toList (picks K f o)
-    one o r = ap members (who-next K laws (lineNo o) f (Rattle.runs.proofs.Ranges.line-low o r)) ∙ to-list (K .next f (lineNo o)) ∙ ap toList (sym (obj-in none (K .next f) o r))
+    one : (o : Object) → inRange o ≡ true → toList (whoIn K f (lineNo o)) ≡ toList (picks K f o)
+    one o r = ap toList (who-next K laws (lineNo o) f (Rattle.runs.proofs.Ranges.line-low o r)) ∙ ap toList (sym (obj-in none (K .next f) o r))
 
     go : (e : LineEffect) → (isKeepLine e ≡ false → inRange (lineAt e c) ≡ true) → takenIn K e (atLine (lineAt e c)) f ≡ taken e (picks K f (lineAt e c)) (byObj [] (K .line f) (lineAt e c))
     go keepLine r = refl

@@ -13,7 +13,7 @@ use Rattle.std.proofs.shelf.Tests.{ltb-true, ltb-false}
 use Rattle.lines.specs.Lines.{has}
 use Rattle.stages.specs.Calls.{Object, sameObject}
 use Rattle.stages.specs.Calls.Object.{mutex, semaphore, condition}
-use Rattle.thread.specs.Turns.{idleThread}
+use Rattle.thread.specs.Turns.{idleThread, wokenThread}
 use Rattle.thread.specs.declared.record.Thread.{Thread}
 use Rattle.stages.specs.declared.step.LineEffect.{LineEffect}
 use Rattle.stages.specs.declared.step.GateEffect.{GateEffect}
@@ -23,7 +23,7 @@ use Rattle.nub.specs.declared.Core.{Core}
 use Rattle.nub.specs.Model.{signals, bitsNew, ownersNew, countsNew}
 use Rattle.nub.specs.Places.{lineNo, inRange, atLine}
 use Rattle.nub.specs.View.{byLine, byObj}
-use Rattle.nub.specs.Work.{bitsL, wokenThread, wakeFrom, countAt}
+use Rattle.nub.specs.Work.{bitsL, wakeFrom, countAt}
 use Rattle.runs.proofs.Forms.{ownersBy, freedAt}
 use Rattle.runs.proofs.Small.{eqb-eq, eqb-of, same-object, clash}
 use Rattle.runs.proofs.Agree.{isKeepGate, wakes}

@@ -3,13 +3,14 @@ use mathlib.Core.Path.{_≡_, refl, sym, _∙_, ap, subst}
 use mathlib.Core.Logic.{_⊎_, inl, inr}
 use mathlib.Core.Bool.{Bool, true, false, not, _&&_, _||_, cond, Bool·beq}
 use mathlib.Core.List.{List, [], _∷_}
+use Rattle.stages.specs.Names.CallKind.{NoCall, Acquire, Release, Wait, Signal, Broadcast, SemP, SemV, Alert, TestAlert, AlertP, AlertWait}
 use Rattle.std.specs.declared.option.Option.{Option}
 use Rattle.std.specs.declared.option.Option.the-variants.{None as none, Some as some}
 use Prim.Native.Nat.{ℕ}
 use lib.Dec.{eqb, ltb}
 use native.Mathlib.Omega.{arith}
 use Rattle.stages.specs.Calls.{Object, gateOf, condOf, sameObject, elem, isSome, Request}
-use Rattle.stages.specs.Names.{stageNo, isIdle, isWait, isSem, isAlerted, num, CallKind, actionNo}
+use Rattle.stages.specs.Names.{stageNo, isIdle, isWait, isSem, isAlerted, num, CallKind, actionNo, NoCall}
 use Rattle.stages.specs.declared.stage.Stage.{Stage}
 use Rattle.stages.specs.declared.action.Action.{Action}
 use Rattle.stages.specs.Calls.Object.{mutex, semaphore, condition}
@@ -22,8 +23,8 @@ use Rattle.stages.specs.declared.step.GateEffect.the-variants.{Keep as keepGate
 use Rattle.stages.specs.declared.marks.Stands.the-variants.{AtCondition as atCond}
 use Rattle.stages.specs.declared.stage.Stage.the-variants.{Idle}
 use Rattle.stages.specs.declared.action.Action.the-variants.{Acquire as acquire, Release as release, Enqueue as enqueue, Resume as resume, ChooseOutcome as chooseOutcome, GetMutex as getMutex, Signal as signal, Broadcast as broadcast, P as semP, V as semV, Alert as alert, TestAlert as testAlert, AlertPReturns as returnP, AlertPRaises as raiseP}
-use Rattle.nub.specs.Model.{NubState, Pick, built, seen, rowOf, lineAt, taken, takenOf, does, signals, betweenOn, reportOf, codeKind, requestBy, verdict, submitted, grantedTo, grantOf, byVerdict, after, answer}
-use Rattle.thread.specs.Turns.{ThreadState}
+use Rattle.nub.specs.Model.{NubState, Pick, built, seen, rowOf, lineAt, taken, takenOf, does, signals, reportOf, codeKind, requestBy, verdict, submitted, grantedTo, grantOf, byVerdict, after, answer}
+use Rattle.thread.specs.Turns.{ThreadState, betweenOn}
 use Rattle.nub.specs.declared.Event.{Event}
 use Rattle.nub.specs.declared.Answer.{Answer}
 use Rattle.nub.specs.declared.Event.the-variants.{Submission as submission, Turn as turn}
@@ -31,7 +32,8 @@ use Rattle.nub.specs.declared.Answer.the-variants.{Granted as granted, Declined
 use Rattle.runs.specs.Published.{Published, Allowed, Turn, turned, note, Right, fed, isAction, nexts, total, answers, isFinished, doneBy, bit}
 use Rattle.runs.specs.Runs.{Picks, Step, Conforms, Runs-conform}
 use Rattle.runs.specs.Reading.{onWay, Free, Holds, isParked, waitClear, heldBy, readHolder, readWaits, readAvail}
-use Rattle.stages.proofs.Finite.{fits, imp-at, no, and-l, and-r}
+use Rattle.stages.proofs.Finite.{imp-at, no, and-l, and-r}
+use Rattle.stages.specs.Pairs.{fits}
 use Rattle.runs.proofs.Small.{eqb-eq, isStand, and-in, or-else, not-out, clash}
 use Rattle.runs.proofs.Agree.{idle-is, isQuit, take-ok, first-between}
 use Rattle.runs.proofs.Inv.{Inv, Taken, is-taken, does-inv, taken-one}
@@ -270,6 +272,20 @@ module _ (s : NubState) (t : ℕ) (c : Request) (inv : Inv s) (gr : Granted s t 
       sub-done
       (λ u. by-one (λ h. isAlerted (s .thread u .out) ≡ isAlerted (h .out)) (eqb t u) new (s .thread u) (λ p. ap (λ (z : ℕ). isAlerted (s .thread z .out)) (sym (eqb-eq t u p))) (λ p. refl))
 
+no-call : (k : CallKind) → fits Idle k ≡ true → k ≡ NoCall
+no-call NoCall h = refl
+no-call Acquire h = no h
+no-call Release h = no h
+no-call Wait h = no h
+no-call Signal h = no h
+no-call Broadcast h = no h
+no-call SemP h = no h
+no-call SemV h = no h
+no-call Alert h = no h
+no-call TestAlert h = no h
+no-call AlertP h = no h
+no-call AlertWait h = no h
+
 -- one event
 pub record Moves (p : Published) (s : NubState) (e : Event) (a : Answer) (s′ : NubState) : Type 0 where
   pub right! : Right p e a
@@ -291,7 +307,11 @@ moves s (submission t code x y) pick inv pk = go (verdict s (submission t code x
         → Moves (readAll s) s (submission t code x y) (byVerdict n granted (λ m. declined m)) (byVerdict n (submitted s t c) (λ m. s))
     go none h =
         let gr : Granted s t (c .kind) (c .x) (c .y) = granted-for s t (codeKind code) x y h in
-        record { right! = tt; reads! = note-reads s t c inv gr; inv! = submitted-inv s t c inv gr }
+        record {
+          right! = no-call (s .thread t .call .kind) (subst (λ (z : Stage). fits z (s .thread t .call .kind) ≡ true) (idle-is (s .thread t .stage) (gr .idle!)) (inv .fit t));
+          reads! = note-reads s t c inv gr;
+          inv! = submitted-inv s t c inv gr;
+        }
     go (some n) h = record { right! = tt; reads! = refl; inv! = inv }
 moves s (turn t) pick inv pk = go (verdict s (turn t)) refl
   where

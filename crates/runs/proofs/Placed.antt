@@ -25,7 +25,8 @@ use Rattle.stages.specs.declared.step.GateEffect.{GateEffect}
 use Rattle.stages.specs.declared.step.GateEffect.the-variants.{Keep as keepGate, Take as takeGate, Free as freeGate}
 use Rattle.stages.specs.declared.step.FlagEffect.{FlagEffect}
 use Rattle.stages.specs.declared.step.FlagEffect.the-variants.{Keep as keepFlag, ClearOwn as clearOwn, SetNamed as setNamed}
-use Rattle.stages.proofs.Finite.{mkSeen, fits, imp, imp-at, no, table-at}
+use Rattle.stages.proofs.Finite.{mkSeen, imp, imp-at, no, table-at}
+use Rattle.stages.specs.Pairs.{fits}
 use Rattle.nub.specs.declared.Core.{Core}
 use Rattle.nub.specs.Places.{atLine, gateLine, byCondition, mutexOf, alertedOf, lineIn}
 use Rattle.nub.specs.Model.{rowOf, seen, lineAt}
@@ -38,7 +39,7 @@ use Rattle.runs.proofs.Small.{isKeepLine}
 use Rattle.runs.proofs.Agree.{isKeepGate}
 use Rattle.runs.proofs.Ranges.{usesGate, usesCond, isNamed, gate-has, cond-has, named-has}
 
-gate-line : (c : Option Call) → hasGate (kindOf c) ≡ true → gateLine c ≡ atLine (gateOf (requestOf c))
+pub gate-line : (c : Option Call) → hasGate (kindOf c) ≡ true → gateLine c ≡ atLine (gateOf (requestOf c))
 gate-line c h = ap (λ (b : Bool). cond b (atLine (gateOf (requestOf c))) none) h
 
 pub cond-some : (c : Option Call) → hasCond (kindOf c) ≡ true → conditionOf c ≡ some (condOf (requestOf c))

@@ -8,7 +8,7 @@ use Rattle.std.proofs.shelf.Tests.{lt-ltb, ltb-true}
 use Rattle.stages.specs.Calls.{Object, gateOf, condOf, Request}
 use Rattle.stages.specs.Names.{callNo, isWait, isSem, CallKind, counted, hasGate}
 use Rattle.stages.specs.Calls.Object.{mutex, semaphore, condition}
-use Rattle.stages.specs.Table.{Seen, row, isBetween}
+use Rattle.stages.specs.Table.{Seen, row, isBetween, readsLine}
 use Rattle.stages.specs.declared.stage.Stage.{Stage}
 use Rattle.stages.specs.Names.CallKind.{NoCall, Acquire, Release, Wait, Signal, Broadcast, SemP, SemV, Alert, TestAlert, AlertP, AlertWait}
 use Rattle.stages.specs.declared.step.LineEffect.{LineEffect}
@@ -17,7 +17,8 @@ use Rattle.stages.specs.declared.step.LineEffect.the-variants.{Keep as keepLine
 use Rattle.stages.specs.declared.step.FlagEffect.the-variants.{Keep as keepFlag, ClearOwn as clearOwn, SetNamed as setNamed}
 use Rattle.nub.specs.Model.{NubState, lineAt, signals, exists}
 use Rattle.nub.specs.Places.{lineNo, inRange}
-use Rattle.stages.proofs.Finite.{table-at, fits, imp, no, and-l, and-r}
+use Rattle.stages.proofs.Finite.{table-at, imp, no, and-l, and-r, imp-at}
+use Rattle.stages.specs.Pairs.{fits}
 use Rattle.runs.proofs.Small.{isKeepLine}
 use Rattle.runs.proofs.Agree.{isKeepGate}
 
@@ -52,6 +53,13 @@ test-gate-has st k v = imp (not (isKeepGate (row st k v .gate)) || usesGate (row
 pub gate-has : (st : Stage) (k : CallKind) (v : Seen) → fits st k ≡ true → (imp (not (isKeepGate (row st k v .gate)) || usesGate (row st k v .line)) (hasGate k)) ≡ true
 unfolding test-gate-has
 gate-has = table-at test-gate-has (record { atIdle = refl; atTry = refl; atPeek = refl; atLineSpin = refl; atAdd = refl; atTest = refl; atPark = refl; atParked = refl; atLeaveSpin = refl; atLeave = refl; atLeaveOut = refl; atUndo = refl; atUndoOut = refl; atClear = refl; atLook = refl; atWakeSpin = refl; atWake = refl; atWakeOut = refl; atRead = refl; atBlockSpin = refl; atCompare = refl; atBlockPark = refl; atWaiting = refl; atQuitSpin = refl; atQuit = refl; atBlockOut = refl; atChoose = refl; atSigSpin = refl; atSig = refl; atSigOut = refl; atSet = refl; atSwap = refl })
+
+test-reads-has : Stage → CallKind → Seen → Bool
+test-reads-has st k v = imp (readsLine st) (hasGate k)
+
+pub reads-has : (st : Stage) (k : CallKind) (v : Seen) → fits st k ≡ true → readsLine st ≡ true → hasGate k ≡ true
+unfolding test-reads-has
+reads-has st k v f h = imp-at (readsLine st) (hasGate k) (table-at test-reads-has (record { atIdle = refl; atTry = refl; atPeek = refl; atLineSpin = refl; atAdd = refl; atTest = refl; atPark = refl; atParked = refl; atLeaveSpin = refl; atLeave = refl; atLeaveOut = refl; atUndo = refl; atUndoOut = refl; atClear = refl; atLook = refl; atWakeSpin = refl; atWake = refl; atWakeOut = refl; atRead = refl; atBlockSpin = refl; atCompare = refl; atBlockPark = refl; atWaiting = refl; atQuitSpin = refl; atQuit = refl; atBlockOut = refl; atChoose = refl; atSigSpin = refl; atSig = refl; atSigOut = refl; atSet = refl; atSwap = refl }) st k v f) h
 
 test-cond-has : Stage → CallKind → Seen → Bool
 test-cond-has st k v = imp (usesCond (row st k v .line)) (isWait k || counted k)

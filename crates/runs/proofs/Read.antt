@@ -25,12 +25,14 @@ use Rattle.stages.specs.declared.step.FlagEffect.the-variants.{Keep as keepFlag
 use Rattle.stages.specs.Table.OutcomeEffect.{keepOutcome, setSignalled, setAlerted}
 use Rattle.stages.specs.declared.marks.Stands.the-variants.{Nowhere as nowhere, AtGate as atGate, AtCondition as atCond}
 use Rattle.stages.specs.declared.stage.Stage.the-variants.{Try, Choose}
-use Rattle.nub.specs.Model.{NubState, seen, rowOf, lineAt, wokenStage, woken, does, flagsNew, bitsNew, ownersNew, betweenOn, reportOf}
-use Rattle.thread.specs.Turns.{ThreadState, moved, outNew}
+use Rattle.nub.specs.Model.{NubState, seen, rowOf, lineAt, woken, does, flagsNew, bitsNew, ownersNew, reportOf}
+use Rattle.thread.specs.Turns.{ThreadState, moved, outNew, betweenOn, wokenStage}
 use Rattle.runs.specs.Published.{Published, isAction, isFinished, doneBy, perform, bit}
 use Rattle.runs.specs.Reading.{waitClear, heldBy, readHolder, readWaits, readAvail}
-use Rattle.stages.proofs.Finite.{fits, imp-at, no, and-l, and-r}
-use Rattle.runs.proofs.Small.{eqb-eq, eqb-same, standsBy, isStand, and-in, not-in, or-else, not-out, clash}
+use Rattle.stages.proofs.Finite.{imp-at, no, and-l, and-r}
+use Rattle.stages.specs.Pairs.{fits}
+use Rattle.runs.proofs.Small.{eqb-eq, eqb-same, isStand, and-in, not-in, or-else, not-out, clash}
+use Rattle.runs.specs.Reading.{standsBy}
 use Rattle.runs.proofs.Agree.{by-idle, wakes, isStanding, ownsNow}
 use Rattle.runs.proofs.Inv.{Inv, standsAt, Taken, by-sort, stands-is, taken-mark, wakeMark}
 use Rattle.runs.proofs.Acts.{doneAt, inSet, outSaid, saidV, HolderE, holderE, availE, flagOf, flagEq, flag-eq, gate-eq, holderOk, isHKeep, isHDrop, atClear, fin-ok, done-ok, said-ok, flag-ok, avail-ok, holder-sem, holder-ok, holder-own, rest-clear, rest-done-gate, rest-done-cond, said-by, alerts-by, availNew, holderNew, avail-by, holder-by}

@@ -15,12 +15,13 @@ use Rattle.stages.specs.declared.step.LineEffect.{LineEffect}
 use Rattle.stages.specs.declared.marks.Stands.{Stands}
 use Rattle.stages.specs.declared.step.LineEffect.the-variants.{Keep as keepLine, JoinGate as joinGate, LeaveGate as leaveGate, JoinCondition as joinCond, LeaveCondition as leaveCond, WakeGate as wakeGate, SignalOne as signalOne, SignalAll as signalAll}
 use Rattle.stages.specs.declared.marks.Stands.the-variants.{Nowhere as nowhere, AtGate as atGate, AtCondition as atCond}
-use Rattle.nub.specs.Model.{NubState, seen, rowOf, lineAt, wokenStage, woken, does, countsNew, signals, betweenOn, freedBy, maskOf, reportOf}
-use Rattle.thread.specs.Turns.{ThreadState, moved}
+use Rattle.nub.specs.Model.{NubState, seen, rowOf, lineAt, woken, does, countsNew, signals, freedBy, maskOf, reportOf}
+use Rattle.thread.specs.Turns.{ThreadState, moved, betweenOn, wokenStage}
 use Rattle.runs.specs.Published.{perform, bit}
 use Rattle.runs.specs.Reading.{readWaits}
 use Rattle.stages.proofs.Finite.{imp-at, and-l, and-r}
-use Rattle.runs.proofs.Small.{eqb-eq, eqb-same, standsBy, isStand, not-in, or-else, not-out, clash}
+use Rattle.runs.proofs.Small.{eqb-eq, eqb-same, isStand, not-in, or-else, not-out, clash}
+use Rattle.runs.specs.Reading.{standsBy}
 use Rattle.runs.proofs.Agree.{by-idle, wakes, isStanding}
 use Rattle.runs.proofs.Inv.{Inv, standsAt, Taken, by-sort, stands-one, stands-is, stood-busy}
 use Rattle.runs.proofs.Acts.{inSet, SetE, setE, setNew, wakeOk, set-ok, set-idle, wake-ok, wake-in, rest-clear, setsNew, waits-by, atClear}

@@ -5,7 +5,8 @@ use mathlib.Core.List.{List, [], _∷_, _++_}
 use Prim.Native.Nat.{ℕ}
 use lib.Dec.{T, eqb, eqb→eq, eqb-refl}
 use native.Mathlib.Omega.{arith}
-use Rattle.stages.specs.Calls.{Object, gateOf, condOf, sameObject, elem, without, Request}
+use Rattle.runs.specs.Reading.{standsBy}
+use Rattle.stages.specs.Calls.{Object, sameObject, elem, without, Request}
 use Rattle.stages.specs.Calls.Object.{mutex, semaphore, condition}
 use Rattle.stages.specs.declared.step.LineEffect.{LineEffect}
 use Rattle.stages.specs.declared.marks.Stands.{Stands}
@@ -85,12 +86,6 @@ elem-new leaveCond t u k l = elem-without (λ x. eqb t x) u l
 elem-new wakeGate t u k l = elem-without (λ x. elem x k) u l
 elem-new signalOne t u k l = elem-without (λ x. elem x k) u l
 elem-new signalAll t u k l = elem-without (λ x. elem x k) u l
-
--- where a thread of call c with the mark m stands
-abbrev pub standsBy : Stands → Request → Object → Bool
-standsBy nowhere c o = false
-standsBy atGate c o = sameObject (gateOf c) o
-standsBy atCond c o = sameObject (condition (condOf c)) o
 
 abbrev pub isStand : Stands → Stands → Bool
 isStand nowhere nowhere = true

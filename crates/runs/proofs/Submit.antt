@@ -17,8 +17,10 @@ use Rattle.nub.specs.Model.{NubState, built, submitted, checked, requestBy, exi
 use Rattle.thread.specs.Turns.{ThreadState}
 use Rattle.stages.specs.Names.CallKind.{NoCall, Acquire, Release, Wait, Signal, Broadcast, SemP, SemV, Alert, TestAlert, AlertP, AlertWait}
 use Rattle.runs.specs.Reading.{onWay}
-use Rattle.stages.proofs.Finite.{fits, imp-at, no, and-l}
-use Rattle.runs.proofs.Small.{eqb-eq, standsBy, clash}
+use Rattle.stages.proofs.Finite.{imp-at, no, and-l}
+use Rattle.stages.specs.Pairs.{fits}
+use Rattle.runs.proofs.Small.{eqb-eq, clash}
+use Rattle.runs.specs.Reading.{standsBy}
 use Rattle.runs.proofs.Agree.{idle-is, first-fit, first-line, first-spin, first-quit, first-between, first-owns, ownsNow, isQuit}
 use Rattle.runs.proofs.Inv.{Inv, standsAt}
 use Rattle.nub.specs.declared.Decline.{Decline}

@@ -1,5 +1,5 @@
 -- The worked cases: runs on a new nub whose lines take the earliest arrival.
---   answersOf   the answers along a list of events
+--   answersOf   the answers that the tables give along a list of events
 --   Cases-hold  all the cases
 use mathlib.Core.Path.{_≡_}
 use mathlib.Core.List.{List, [], _∷_}
@@ -10,27 +10,25 @@ use Rattle.stages.specs.declared.action.Action.{Action}
 use Rattle.stages.specs.declared.action.Status.{Status}
 use Rattle.stages.specs.declared.action.Action.the-variants.{Acquire as acquire, Enqueue as enqueue, ChooseOutcome as chooseOutcome, GetMutex as getMutex, Signal as signal, V as semV, Alert as alert, TestAlert as testAlert, AlertPReturns as returnP}
 use Rattle.stages.specs.declared.action.Status.the-variants.{On as on, Finished as finished}
-use Rattle.nub.specs.Model.{NubState, built, after, answer}
+use Rattle.lines.specs.Choosing.{first-come}
+use Rattle.nub.specs.declared.Core.{Core}
+use Rattle.nub.specs.Build.{builtCore}
+use Rattle.runs.specs.Replay.{ran}
 use Rattle.nub.specs.declared.Event.{Event}
 use Rattle.nub.specs.declared.Decline.the-variants.{CountHigh}
 use Rattle.nub.specs.declared.Answer.{Answer}
 use Rattle.nub.specs.declared.Event.the-variants.{Submission as submission, Turn as turn}
 use Rattle.nub.specs.declared.Answer.the-variants.{Granted as granted, Declined as declined, Reported as reported}
 
-abbrev pub front : List ℕ → Option ℕ
-front [] = none
-front (x ∷ xs) = some x
-
-abbrev pub answersOf : NubState → List Event → List Answer
-answersOf s [] = []
-answersOf s (e ∷ es) = answer s e (λ o. front (s .line o)) ∷ answersOf (after s e (λ o. front (s .line o))) es
+abbrev pub answersOf : Core → List Event → List Answer
+answersOf k es = ran first-come k (tt, []) es .answers
 
 abbrev pub rep : Status → ℕ → Option Action → ℕ → Answer
 rep s v a m = reported (record { status = s; value = v; action = a; mask = m })
 
 -- two threads, one of each object
-abbrev pub small : ℕ → NubState
-small begin = built 2 1 1 1 (λ i. begin)
+abbrev pub small : ℕ → Core
+small begin = builtCore (record { threads = 2; mutexes = 1; conditions = 1; semaphores = 1 }) begin
 
 -- Acquire of a free mutex takes one turn
 abbrev pub Acquire-free : Type 0

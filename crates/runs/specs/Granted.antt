@@ -1,7 +1,8 @@
 -- What a turn asks of the lines and of a count is always granted: no operation on a line is refused, and no count wraps.
 --   LineGranted    the line operation of an effect is granted
 --   CountFits      the count that a signal raises has room
---   EventGranted   both, for the turn that an event is
+--   AskGranted     whether a line is empty may be asked
+--   EventGranted   all of it, for the turn that an event is
 use mathlib.Core.Path.{_≡_}
 use Prim.Native.Nat.{ℕ, _+_, _^_, _<_}
 use mathlib.Core.List.{List, [], _∷_}
@@ -9,7 +10,9 @@ use Rattle.std.specs.declared.option.Option.{Option}
 use Rattle.std.specs.declared.option.Option.the-variants.{None as none, Some as some}
 use Rattle.std.specs.declared.result.Result.the-variants.{Ok}
 use Rattle.lines.specs.Kinds.{Kind as LineKind}
-use Rattle.lines.specs.Lines.{add-answer, remove-answer, take-answer}
+use Rattle.lines.specs.Lines.{add-answer, remove-answer, take-answer, empty-answer, none as noneIn}
+use mathlib.Core.Bool.{true}
+use Rattle.stages.specs.Table.{readsLine}
 use Rattle.stages.specs.Calls.{conditionOf}
 use Rattle.thread.specs.Turns.{stepAfter}
 use Rattle.stages.specs.declared.step.Step.{Step}
@@ -18,7 +21,7 @@ use Rattle.stages.specs.declared.step.LineEffect.the-variants.{Keep as keepLine
 use Rattle.nub.specs.declared.Core.{Core}
 use Rattle.nub.specs.declared.Event.{Event}
 use Rattle.nub.specs.declared.Event.the-variants.{Submission as submission, Turn as turn}
-use Rattle.nub.specs.Places.{lineIn}
+use Rattle.nub.specs.Places.{lineIn, gateLine}
 use Rattle.nub.specs.Work.{threadAt, countAt}
 use Rattle.nub.specs.Turn.{sightOf, moves}
 
@@ -47,6 +50,11 @@ LineGranted K wakeGate o f t = TakeGranted K o f
 LineGranted K signalOne o f t = TakeGranted K o f
 LineGranted K signalAll o f t = TakeGranted K o f
 
+-- there is such a line, and it tells whether it is empty
+abbrev pub AskGranted : (K : LineKind) → Option ℕ → K .State → Type 0
+AskGranted K none f = ⊥
+AskGranted K (some l) f = empty-answer (K .line f) l ≡ Ok (noneIn (K .line f l))
+
 -- there is such a condition, and its count can rise
 abbrev pub Room : Option ℕ → Core → Type 0
 Room none k = ⊥
@@ -66,7 +74,9 @@ CountFits signalAll o k = Room o k
 abbrev pub TurnGranted : (K : LineKind) → Core → K .State → ℕ → Type 0
 TurnGranted K k f t =
     (s : Step) → t < k .sizes .threads → stepAfter (threadAt k t) (sightOf K k f t) ≡ some s
-    → LineGranted K (s .line) (lineIn (s .line) (threadAt k t .call)) f t × CountFits (s .line) (conditionOf (threadAt k t .call)) k
+    → LineGranted K (s .line) (lineIn (s .line) (threadAt k t .call)) f t
+    × CountFits (s .line) (conditionOf (threadAt k t .call)) k
+    × (readsLine (threadAt k t .stage) ≡ true → AskGranted K (gateLine (threadAt k t .call)) f)
 
 abbrev pub EventGranted : (K : LineKind) → Core → K .State → Event → Type 0
 EventGranted K k f (submission t n a b) = Unit {0}

@@ -206,7 +206,7 @@ turned p t r =
       said = λ u. cond (eqb t u && isFinished (r .status)) false (q .said u);
     }
 
--- a call is noted; the finish of the one before it has struck out its note, so nothing is done or said yet
+-- a call is noted; it is the thread's only one, since the finish of the one before it struck out its note: nothing is done or said yet
 abbrev pub note : Published → ℕ → Request → Published
 note p t c =
     record {
@@ -219,9 +219,9 @@ note p t c =
       said = p .said;
     }
 
--- an event with its answer: what must hold, and the published state after it
+-- an event with its answer: what must hold, and the published state after it; a submission is granted where no call is noted
 abbrev pub Right : Published → Event → Answer → Type 0
-Right p (submission t code x y) granted = Unit {0}
+Right p (submission t code x y) granted = p .noted t .kind ≡ NoCall
 Right p (submission t code x y) (declined n) = Unit {0}
 Right p (submission t code x y) (reported r) = ⊥
 Right p (turn t) granted = ⊥

@@ -2,3 +2,4 @@
 pub mod OneNub
 pub mod Kinds
 pub mod Written
+pub mod Played

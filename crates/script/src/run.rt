@@ -3,6 +3,7 @@ ghost use mathlib.Core.Path.{_≡_};
 ghost use Rattle.std.specs.Of.Vec.{vec-items};
 ghost use Rattle.std.specs.Vec.{made};
 ghost use Rattle.script.specs.Written.{written};
+ghost use Rattle.script.specs.Played.{Played};
 use crate::machines::FirstComeMachine;
 use crate::machines::On;
 use crate::machines::RankedMachine;
@@ -13,8 +14,12 @@ use std::alloc::Global;
 use text::run::run;
 
 /// What is written of the script `input`, or want of memory.
+///
+/// The bytes are those of the definition (`text`), and they are what a nub answers along a right run of the
+/// submissions and turns in the script (`run`).
 pub fn run_script(heap: Global, input: &[u8]) -> Result<Vec<u8>, AllocError>
-    ensures { λ r. ⌜ made r (λ v. vec-items v ≡ written (now (input .entry))) ⌝ }
+    ensures text { λ r. ⌜ made r (λ v. vec-items v ≡ written (now (input .entry))) ⌝ }
+    ensures run { λ r. ⌜ made r (λ v. Played (now (input .entry)) (vec-items v)) ⌝ }
 {
     run::<On<FirstCome>, On<Ranked>>(heap, input)
 }

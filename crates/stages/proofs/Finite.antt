@@ -1,10 +1,8 @@
 -- Tests over all stages, kinds and sights, computed.
 use mathlib.Core.Path.{_≡_, refl}
 use mathlib.Core.Bool.{Bool, true, false, _&&_}
-use mathlib.Core.List.{List, [], _∷_}
-use Prim.Native.Nat.{ℕ}
-use Rattle.stages.specs.Names.{callNo, CallKind}
-use Rattle.stages.specs.Calls.{elem}
+use Rattle.stages.specs.Pairs.{fits}
+use Rattle.stages.specs.Names.{CallKind}
 use Rattle.stages.specs.declared.stage.Stage.{Stage}
 use Rattle.stages.specs.Table.{Seen}
 use Rattle.stages.specs.declared.stage.Stage.the-variants.{Idle, Try, Peek, LineSpin, Add, Test, Park, Parked, LeaveSpin, Leave, LeaveOut, Undo, UndoOut, Clear, Look, WakeSpin, Wake, WakeOut, Read, BlockSpin, Compare, BlockPark, Waiting, QuitSpin, Quit, BlockOut, Choose, SigSpin, Sig, SigOut, Set, Swap}
@@ -129,44 +127,6 @@ everyStage-at f h Sig = h .atSig
 everyStage-at f h SigOut = h .atSigOut
 everyStage-at f h Set = h .atSet
 everyStage-at f h Swap = h .atSwap
-
--- the calls that may stand at a stage
-abbrev pub kindsAt : Stage → List ℕ
-kindsAt Idle = 0 ∷ []
-kindsAt Try = 1 ∷ 3 ∷ 6 ∷ 10 ∷ 11 ∷ []
-kindsAt Peek = 10 ∷ []
-kindsAt LineSpin = 1 ∷ 3 ∷ 6 ∷ 10 ∷ 11 ∷ []
-kindsAt Add = 1 ∷ 3 ∷ 6 ∷ 10 ∷ 11 ∷ []
-kindsAt Test = 1 ∷ 3 ∷ 6 ∷ 10 ∷ 11 ∷ []
-kindsAt Park = 1 ∷ 3 ∷ 6 ∷ 10 ∷ 11 ∷ []
-kindsAt Parked = 1 ∷ 3 ∷ 6 ∷ 10 ∷ 11 ∷ []
-kindsAt LeaveSpin = 10 ∷ []
-kindsAt Leave = 10 ∷ []
-kindsAt LeaveOut = 10 ∷ []
-kindsAt Undo = 1 ∷ 3 ∷ 6 ∷ 10 ∷ 11 ∷ []
-kindsAt UndoOut = 1 ∷ 3 ∷ 6 ∷ 10 ∷ 11 ∷ []
-kindsAt Clear = 2 ∷ 3 ∷ 7 ∷ 11 ∷ []
-kindsAt Look = 2 ∷ 3 ∷ 7 ∷ 11 ∷ []
-kindsAt WakeSpin = 2 ∷ 3 ∷ 7 ∷ 11 ∷ []
-kindsAt Wake = 2 ∷ 3 ∷ 7 ∷ 11 ∷ []
-kindsAt WakeOut = 2 ∷ 3 ∷ 7 ∷ 11 ∷ []
-kindsAt Read = 3 ∷ 11 ∷ []
-kindsAt BlockSpin = 3 ∷ 11 ∷ []
-kindsAt Compare = 3 ∷ 11 ∷ []
-kindsAt BlockPark = 3 ∷ 11 ∷ []
-kindsAt Waiting = 3 ∷ 11 ∷ []
-kindsAt QuitSpin = 11 ∷ []
-kindsAt Quit = 11 ∷ []
-kindsAt BlockOut = 3 ∷ 11 ∷ []
-kindsAt Choose = 11 ∷ []
-kindsAt SigSpin = 4 ∷ 5 ∷ []
-kindsAt Sig = 4 ∷ 5 ∷ []
-kindsAt SigOut = 4 ∷ 5 ∷ []
-kindsAt Set = 8 ∷ []
-kindsAt Swap = 9 ∷ []
-
-abbrev pub fits : Stage → CallKind → Bool
-fits st k = elem (callNo k) (kindsAt st)
 
 abbrev pub imp : Bool → Bool → Bool
 imp true b = b

@@ -2,3 +2,4 @@ pub mod Names
 pub mod Calls
 pub mod Table
 pub mod Marks
+pub mod Pairs

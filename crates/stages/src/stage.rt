@@ -1,6 +1,6 @@
 //! The thirty-two stages that a thread can be at.
 ghost use mathlib.Core.Path.{_≡_};
-ghost use Rattle.stages.specs.Names.{isIdle};
+ghost use Rattle.stages.specs.Names.{stageNo, isIdle};
 ghost use Rattle.stages.specs.Table.{readsBit, readsLine, readsCount};
 
 /// Where a thread is in its call. `Idle` is the stage of a thread that has no call.
@@ -41,6 +41,13 @@ pub enum Stage {
 }
 
 impl Stage {
+    /// The number of the stage.
+    pub fn number(self) -> u8
+        ensures { λ r. ⌜ r ≡ stageNo self ⌝ }
+    {
+        self as u8
+    }
+
     /// Whether a thread at this stage has no call.
     pub fn is_idle(self) -> bool
         ensures { λ r. ⌜ r ≡ isIdle self ⌝ }

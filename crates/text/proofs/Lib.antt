@@ -1,8 +1,4 @@
--- Lemmas by topic: of tokens, of numbers, of lines, and the laws.
-pub mod Fronts
-pub mod Values
-pub mod Reading
+-- Lemmas by topic: of steps, of lines, and the laws.
+pub mod Stepping
 pub mod Running
 pub mod Lawful
-pub mod Right
-pub mod Telling

@@ -11,8 +11,8 @@ use Rattle.std.proofs.shelf.Lists.{nil-from-length, drop-all, drop-drop}
 use Rattle.std.proofs.shelf.Tests.{le-leb, cond-true}
 use Rattle.std.specs.declared.option.Option.{Option}
 use Rattle.std.specs.declared.option.Option.the-variants.{None}
-use Rattle.text.specs.declared.token.Class.the-variants.{Inner}
-use Rattle.text.specs.Front.{front}
+use Rattle.tokens.specs.declared.token.Class.the-variants.{Inner}
+use Rattle.tokens.specs.Front.{front}
 use Rattle.text.specs.Model.{Model}
 use Rattle.text.specs.Step.{stepped}
 use Rattle.text.specs.Written.{lineText}

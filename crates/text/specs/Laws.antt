@@ -1,22 +1,12 @@
 -- What holds of every script, in words that do not repeat how it is run.
 --     Cut-at-ends    lines that are each ended by a byte 10, the last perhaps without, are cut as they were joined
 --     Goes-on m      what is written of more lines is as if the script began there, with the nub and the count so far
---     Reads-right    numbers that are each written after one space are read as their values
---     Spells ds n    ds are the digits of the number n, which is within its limit
---     spaced dss     numbers, each after one space
 use mathlib.Core.Path.{_≡_}
-use mathlib.Core.Bool.{true}
 use mathlib.Core.List.{List, [], _∷_, _++_}
 use Prim.Native.Nat.{ℕ, _+_, _<_}
 use lib.ListN.{length}
 use Rattle.std.specs.Joined.{joined}
 use Rattle.std.specs.declared.option.Option.{Option}
-use Rattle.std.specs.declared.option.Option.the-variants.{Some}
-use Rattle.std.specs.declared.result.Result.the-variants.{Ok}
-use Rattle.text.specs.declared.token.Class.the-variants.{Digit}
-use Rattle.text.specs.Front.{isIn}
-use Rattle.text.specs.Number.{worth}
-use Rattle.text.specs.Numbers.{read}
 use Rattle.text.specs.Model.{Model}
 use Rattle.text.specs.Step.{stepped}
 use Rattle.text.specs.Script.{lines, texts}
@@ -45,27 +35,3 @@ after m s (l ∷ ls) = after m (stepped m s l .state) ls
 -- more lines go on where the first ones stopped
 abbrev pub Goes-on : Model → Type 0
 Goes-on m = (n : ℕ) (s : Option (m .State)) (xs ys : List (List ℕ)) → texts m n s (xs ++ ys) ≡ texts m n s xs ++ texts m (n + length xs) (after m s xs) ys
-
-abbrev pub AllDigits : List ℕ → Type 0
-AllDigits [] = Unit {0}
-AllDigits (d ∷ ds) = (isIn Digit d ≡ true) × AllDigits ds
-
--- ds are the digits of the number n
-pub record Spells (ds : List ℕ) (n : ℕ) : Type 0 where
-  pub some : 0 < length ds
-  pub digits : AllDigits ds
-  pub value : worth ds ≡ Some n
-
-abbrev pub SpellAll : List (List ℕ) → List ℕ → Type 0
-SpellAll [] [] = Unit {0}
-SpellAll [] (n ∷ ns) = ⊥
-SpellAll (ds ∷ dss) [] = ⊥
-SpellAll (ds ∷ dss) (n ∷ ns) = Spells ds n × SpellAll dss ns
-
--- each after one space
-abbrev pub spaced : List (List ℕ) → List ℕ
-spaced dss = joined (λ ds. 32 ∷ ds) dss
-
--- numbers that are each written after one space are read
-abbrev pub Reads-right : Type 0
-Reads-right = (dss : List (List ℕ)) (ns : List ℕ) (c : ℕ) → SpellAll dss ns → read (length ns) c (spaced dss) ≡ Ok ns

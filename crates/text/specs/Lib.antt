@@ -1,13 +1,7 @@
 -- The definitions that contracts of the script cite, in the order of reading.
-pub mod Front
-pub mod Number
-pub mod Word
-pub mod Numbers
-pub mod Refusals
 pub mod Model
 pub mod Both
 pub mod Step
 pub mod Written
 pub mod Script
 pub mod Laws
-pub mod Faults

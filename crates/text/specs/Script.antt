@@ -12,9 +12,9 @@ use lib.ListN.{length, take, drop}
 use Rattle.std.specs.declared.option.Option.{Option}
 use Rattle.std.specs.declared.option.Option.the-variants.{None}
 use Rattle.text.specs.declared.answer.Refusal.the-variants.{Script}
-use Rattle.text.specs.declared.fault.Fault.the-variants.{TooLong}
-use Rattle.text.specs.declared.token.Class.the-variants.{Inner}
-use Rattle.text.specs.Front.{front}
+use Rattle.tokens.specs.declared.fault.Fault.the-variants.{TooLong}
+use Rattle.tokens.specs.declared.token.Class.the-variants.{Inner}
+use Rattle.tokens.specs.Front.{front}
 use Rattle.text.specs.Model.{Model}
 use Rattle.text.specs.Step.{stepped}
 use Rattle.text.specs.Written.{lineText, refusal}

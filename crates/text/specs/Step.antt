@@ -17,10 +17,10 @@ use Rattle.text.specs.declared.answer.Refusal.{Refusal}
 use Rattle.text.specs.declared.answer.Refusal.the-variants.{Nub, Script}
 use Rattle.text.specs.declared.answer.Answer.{Answer}
 use Rattle.text.specs.declared.answer.Answer.the-variants as answer
-use Rattle.text.specs.declared.fault.Fault.the-variants.{NoLetter, BadNumber, OutOfOrder}
+use Rattle.tokens.specs.declared.fault.Fault.the-variants.{NoLetter, BadNumber, OutOfOrder}
 use Rattle.text.specs.Model.{Model}
-use Rattle.text.specs.Word.{Word, firstCome, ranked, submit, turn, note, number, wrong, opening}
-use Rattle.text.specs.Numbers.{read}
+use Rattle.tokens.specs.Word.{Word, firstCome, ranked, submit, turn, note, number, wrong, opening}
+use Rattle.tokens.specs.Numbers.{read}
 
 pub record Step (m : Model) (X : Type 0) : Type 0 where
   pub answer : Result X Refusal

@@ -14,7 +14,7 @@ use Rattle.text.specs.declared.answer.Report.{Report}
 use Rattle.text.specs.declared.answer.Refusal.{Refusal}
 use Rattle.text.specs.declared.answer.Refusal.the-variants.{Nub, Script}
 use Rattle.text.specs.declared.answer.Answer.{Answer}
-use Rattle.text.specs.Refusals.{numberOf, columnOf}
+use Rattle.tokens.specs.Refusals.{numberOf, columnOf}
 use Rattle.text.specs.Step.{Reply, done, reported, echoed, replyOf}
 
 abbrev pub shownReport : Report → List ℕ

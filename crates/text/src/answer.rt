@@ -1,5 +1,5 @@
-// What a line of the script is answered.
-use crate::fault::Fault;
+//! What a line of the script is answered.
+use tokens::fault::Fault;
 
 /// What a turn reports, in numbers whose meaning is the machine's.
 #[derive(Clone, Copy)]

@@ -1,4 +1,4 @@
-// The machine of a script, which is of one of two kinds: the letter that builds it chooses.
+//! The machine of a script, which is of one of two kinds: the letter that builds it chooses.
 ghost use mathlib.Core.Path.{_≡_};
 ghost use Rattle.text.specs.Model.{madeAt};
 ghost use Rattle.text.specs.Both.{both, eitherOf};

@@ -1,15 +1,11 @@
-// What holds of every script, as a promise that the check must prove.
+//! What holds of every script, as a promise that the check must prove.
 ghost use Rattle.text.specs.Both.{both};
-ghost use Rattle.text.specs.Laws.{Cut-at-ends, Goes-on, Reads-right};
-ghost use Rattle.text.specs.Faults.{Tells-right};
+ghost use Rattle.text.specs.Laws.{Cut-at-ends, Goes-on};
 use crate::machine::Machine;
 
-/// Inputs are cut at their ends, numbers are read right, the column of a fault is that of the leftmost,
-/// and a script goes on after each line as if it began there.
+/// Inputs are cut at their ends, and a script goes on after each line as if it began there.
 pub fn laws_hold<A: Machine, B: Machine>() -> u8
     ensures cuts { λ _. ⌜ Cut-at-ends ⌝ }
-    ensures reads { λ _. ⌜ Reads-right ⌝ }
-    ensures tells { λ _. ⌜ Tells-right ⌝ }
     ensures follows { λ _. ⌜ Goes-on (both (A·Machine .model) (B·Machine .model)) ⌝ }
 {
     0

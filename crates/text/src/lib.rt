@@ -1,11 +1,8 @@
-// The script language: from the bytes read to the bytes written, over any machine that takes submissions and turns.
+//! The script language: from the bytes read to the bytes written, over any machine that takes submissions and turns.
 pub mod answer;
-pub mod fault;
 pub mod held;
 pub mod laws;
 pub mod machine;
-pub mod numbers;
 pub mod run;
 pub mod step;
-pub mod token;
 pub mod write;

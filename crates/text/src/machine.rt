@@ -1,4 +1,4 @@
-// What a script runs on: a machine that is built, takes submissions and takes turns.
+//! What a script runs on: a machine that is built, takes submissions and takes turns.
 ghost use mathlib.Core.Path.{_≡_};
 ghost use Rattle.text.specs.Model.{Single, madeAt};
 use crate::answer::Report;

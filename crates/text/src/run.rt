@@ -1,4 +1,4 @@
-// The whole script: cut into lines, which are answered one after the other.
+//! The whole script: cut into lines, which are answered one after the other.
 ghost use mathlib.Core.Path.{_≡_};
 ghost use mathlib.Core.Bool.{cond};
 ghost use mathlib.Core.List.{_++_};
@@ -10,15 +10,15 @@ ghost use Rattle.text.specs.Step.{stepped};
 ghost use Rattle.text.specs.Written.{lineText};
 ghost use Rattle.text.specs.Script.{firstLine, afterLine, script};
 use crate::answer::*;
-use crate::fault::Fault;
 use crate::held::Held;
 use crate::machine::Machine;
 use crate::step::step;
-use crate::token::Class;
-use crate::token::front_len;
 use crate::write::*;
 use std::alloc::AllocError;
 use std::alloc::Global;
+use tokens::fault::Fault;
+use tokens::token::Class;
+use tokens::token::front_len;
 
 // The most bytes that an input may have.
 const MOST_BYTES: usize = 65_536;

@@ -1,15 +1,15 @@
-// What one line does to the nub, and what it is answered.
+//! What one line does to the nub, and what it is answered.
 ghost use mathlib.Core.Path.{_≡_};
 ghost use Rattle.text.specs.Both.{both, heldAt};
-ghost use Rattle.text.specs.Numbers.{read};
+ghost use Rattle.tokens.specs.Numbers.{read};
 ghost use Rattle.text.specs.Step.{built, submitted, turned, replied, stepped};
 use crate::answer::*;
-use crate::fault::Fault;
 use crate::held::Held;
 use crate::machine::Machine;
-use crate::numbers::numbers;
-use crate::token;
-use crate::token::Token;
+use tokens::fault::Fault;
+use tokens::numbers::numbers;
+use tokens::token;
+use tokens::token::Token;
 
 // N and K: a new nub, where there is none. One that is refused leaves none.
 fn build<A: Machine + Drop, B: Machine + Drop>(

@@ -1,4 +1,4 @@
-// What is written of an answer and of a refusal.
+//! What is written of an answer and of a refusal.
 ghost use mathlib.Core.Path.{_≡_};
 ghost use mathlib.Core.Bool.{cond};
 ghost use mathlib.Core.List.{_++_};

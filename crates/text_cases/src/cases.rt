@@ -1,4 +1,4 @@
-// Inputs, and what is written of them.
+//! Inputs, and what is written of them.
 #[cfg(test)]
 mod tests {
     use crate::toy::Toy;

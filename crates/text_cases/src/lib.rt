@@ -1,3 +1,3 @@
-// Cases of the script language, run on a machine that keeps one number.
+//! Cases of the script language, run on a machine that keeps one number.
 mod cases;
 pub mod toy;

@@ -1,4 +1,4 @@
-// A machine for the cases, which is only there to be told apart: it keeps one number.
+//! A machine for the cases, which is only there to be told apart: it keeps one number.
 ghost use Rattle.text_cases.specs.Toy.{toy};
 use text::answer::Report;
 use text::machine::Machine;

@@ -4,18 +4,20 @@
 --   moved         a thread's state after a row
 --   stepped       the record after a row
 --   stepOf        what the row leaves to be done outside the record
+--   wokenThread   the record of a thread that is taken from a line
+--   betweenOn     the thread is between on a condition
 --   threadAfter   the record after its turn, and stepAfter what is left to do; none where it is idle
-use mathlib.Core.Bool.{Bool, false, cond}
+use mathlib.Core.Bool.{Bool, true, false, cond, _&&_}
 use Prim.Native.Nat.{ℕ}
 use lib.Dec.{eqb}
 use Rattle.std.specs.declared.option.Option.{Option}
 use Rattle.std.specs.declared.option.Option.the-variants.{None as none, Some as some}
-use Rattle.stages.specs.Names.{isIdle, isAlerted, num}
-use Rattle.stages.specs.Calls.{Request, requestOf, kindOf, noCall}
-use Rattle.stages.specs.Table.{Seen, Row, OutcomeEffect, row, first}
+use Rattle.stages.specs.Names.{CallKind, isIdle, isAlertWait, isAlerted, num}
+use Rattle.stages.specs.Calls.{Request, requestOf, kindOf, noCall, condOf}
+use Rattle.stages.specs.Table.{Seen, Row, OutcomeEffect, row, first, isBetween}
 use Rattle.stages.specs.Table.OutcomeEffect.{keepOutcome, setSignalled, setAlerted}
 use Rattle.stages.specs.declared.stage.Stage.{Stage}
-use Rattle.stages.specs.declared.stage.Stage.the-variants.{Idle}
+use Rattle.stages.specs.declared.stage.Stage.the-variants.{Idle, Try, Choose}
 use Rattle.stages.specs.declared.call.Call.{Call}
 use Rattle.stages.specs.declared.action.Outcome.{Outcome}
 use Rattle.stages.specs.declared.action.Outcome.the-variants.{Signalled, Alerted}
@@ -24,6 +26,7 @@ use Rattle.stages.specs.declared.action.Status.{Status}
 use Rattle.stages.specs.declared.step.SpinEffect.{SpinEffect}
 use Rattle.stages.specs.declared.step.GateEffect.{GateEffect}
 use Rattle.stages.specs.declared.step.LineEffect.{LineEffect}
+use Rattle.stages.specs.declared.step.LineEffect.the-variants.{Keep as keepLine, JoinGate as joinGate, LeaveGate as leaveGate, JoinCondition as joinCond, LeaveCondition as leaveCond, WakeGate as wakeGate, SignalOne as signalOne, SignalAll as signalAll}
 use Rattle.stages.specs.declared.step.FlagEffect.{FlagEffect}
 use Rattle.stages.specs.declared.step.FlagEffect.the-variants.{Keep as keepFlag, ClearOwn as clearOwn, SetNamed as setNamed}
 use Rattle.thread.specs.declared.record.Thread.{Thread}
@@ -107,3 +110,28 @@ stepBy s v a p g l f = record { status = s; value = v; action = a; spin = p; gat
 -- a call begins
 abbrev pub started : Option Call → Thread → Thread
 started c h = record { alert = h .alert; stage = first (kindOf c); call = c; kept = h .kept; outcome = h .outcome }
+
+-- what others do to a thread and ask of it
+
+-- the stage of a thread that an effect takes from a line: one in AlertWait, taken by a signal, has its outcome to choose
+abbrev pub wokenStage : LineEffect → CallKind → Stage
+wokenStage keepLine k = Try
+wokenStage joinGate k = Try
+wokenStage leaveGate k = Try
+wokenStage joinCond k = Try
+wokenStage leaveCond k = Try
+wokenStage wakeGate k = Try
+wokenStage signalOne k = cond (isAlertWait k) Choose Try
+wokenStage signalAll k = cond (isAlertWait k) Choose Try
+
+-- the record of a thread that is taken
+abbrev pub wokenThread : LineEffect → Thread → Thread
+wokenThread e h = record { alert = h .alert; stage = wokenStage e (kindOf (h .call)); call = h .call; kept = h .kept; outcome = h .outcome }
+
+-- the record with its alert flag set
+abbrev pub flagged : Thread → Thread
+flagged h = record { alert = true; stage = h .stage; call = h .call; kept = h .kept; outcome = h .outcome }
+
+-- a thread between Read and the line of condition c
+abbrev pub betweenOn : ThreadState → ℕ → Bool
+betweenOn h c = isBetween (h .stage) (h .call .kind) && eqb (condOf (h .call)) c

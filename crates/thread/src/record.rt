@@ -8,14 +8,17 @@ use stages::call::Call;
 use stages::stage::Stage;
 use stages::step::*;
 
+mod outside;
+mod reads;
+
 /// A thread: its alert flag, its stage, its call, the count that it kept, and its outcome once it has chosen one.
 #[derive(Clone, Copy)]
 pub struct Thread {
-    pub alert: bool,
-    pub stage: Stage,
-    pub call: Option<Call>,
-    pub kept: u32,
-    pub outcome: Option<Outcome>,
+    alert: bool,
+    stage: Stage,
+    call: Option<Call>,
+    kept: u32,
+    outcome: Option<Outcome>,
 }
 
 // A step that does nothing outside the record.

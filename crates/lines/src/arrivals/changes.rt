@@ -1,4 +1,4 @@
-// Adding to a store and removing from it, with the checks of both.
+//! Adding to a store and removing from it, with the checks of both.
 ghost use mathlib.Core.Path.{_≡_};
 ghost use mathlib.Core.Bool.{false};
 ghost use mathlib.Core.List.{[], _∷_, _++_};

@@ -1,4 +1,4 @@
-// Making a store, and finding a place in it.
+//! Making a store, and finding a place in it.
 ghost use mathlib.Core.Path.{_≡_};
 ghost use mathlib.Core.Bool.{false};
 ghost use mathlib.Core.List.{[]};

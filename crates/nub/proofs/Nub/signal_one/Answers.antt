@@ -1,3 +1,4 @@
+use Rattle.stages.specs.Calls.{toList}
 use mathlib.Core.Path.{_≡_, ap, _∙_}
 use mathlib.Core.Bool.{Bool, false, _||_}
 use mathlib.Core.List.{List}
@@ -8,7 +9,6 @@ use Rattle.lines.specs.Lines.{has}
 use Rattle.stages.specs.Calls.Object.{condition}
 use Rattle.stages.specs.declared.step.LineEffect.the-variants.{SignalOne}
 use Rattle.nub.specs.Places.{atLine, byCondition}
-use Rattle.nub.specs.Lining.{members}
 use Rattle.nub.specs.Work.{oneOf, oneLess, signalledOn, freedMaskOn}
 use Rattle.nub.proofs.Taken.{signalled-marks, mask-marks}
 use Rattle.nub.proofs.Nub.signal_one.Needs as need
@@ -18,7 +18,7 @@ returns-in-rest g c =
     let K = g .L·LineSet .kind in
     let k = c .args .self .now .core in
     let f = g .L·LineSet .state (c .args .self .now .lines) in
-    let us : Option ℕ → List ℕ = λ l. members (oneOf K l f) in
+    let us : Option ℕ → List ℕ = λ l. toList (oneOf K l f) in
     let q = c .in-rest .ensures tt in
     record {
       core = ap (λ (o : Option ℕ). signalledOn SignalOne o (us (byCondition o)) k) q;
@@ -33,7 +33,7 @@ returns g c =
     let f = g .L·LineSet .state (c .args .self .now .lines) in
     let i = c .in-Some .c in
     let q = c .in-Some .ensures tt in
-    let us : Option ℕ → List ℕ = λ l. members (oneOf K l f) in
+    let us : Option ℕ → List ℕ = λ l. toList (oneOf K l f) in
     let bs : List Bool = c .mark-one .last .taken in
     let l : length bs ≡ 64 = c .mark-one .kept .taken in
     let a : c .condition-line .result ≡ atLine (condition i) = c .condition-line .ensures .line in

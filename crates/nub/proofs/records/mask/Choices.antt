@@ -2,8 +2,8 @@ use mathlib.Core.Path.{_≡_}
 use mathlib.Core.Bool.{false, _||_, _&&_}
 use lib.Dec.{eqb}
 use lib.ListN.{getD}
-use Rattle.thread.specs.Turns.{stateOf, idleThread}
-use Rattle.nub.specs.Model.{betweenOn, maskOf}
+use Rattle.thread.specs.Turns.{stateOf, idleThread, betweenOn}
+use Rattle.nub.specs.Model.{maskOf}
 use Rattle.nub.proofs.records.mask.Given as given
 
 abbrev pub Inv-loop-n : given.InvT-loop-n

@@ -13,6 +13,13 @@ use std::alloc::AllocError;
 use std::alloc::Global;
 use text::run::run;
 
+// What is written of the script, on first-come lines after N and on ranked lines after K.
+fn ran(heap: Global, input: &[u8]) -> Result<Vec<u8>, AllocError>
+    ensures { λ r. ⌜ made r (λ v. vec-items v ≡ written (now (input .entry))) ⌝ }
+{
+    run::<On<FirstCome>, On<Ranked>>(heap, input)
+}
+
 /// What is written of the script `input`, or want of memory.
 ///
 /// The bytes are those of the definition (`text`), and they are what a nub answers along a right run of the
@@ -21,5 +28,5 @@ pub fn run_script(heap: Global, input: &[u8]) -> Result<Vec<u8>, AllocError>
     ensures text { λ r. ⌜ made r (λ v. vec-items v ≡ written (now (input .entry))) ⌝ }
     ensures run { λ r. ⌜ made r (λ v. Played (now (input .entry)) (vec-items v)) ⌝ }
 {
-    run::<On<FirstCome>, On<Ranked>>(heap, input)
+    ran(heap, input)
 }

@@ -10,6 +10,6 @@ pub returns : need.returns
 returns c =
     let input = c .args .input .now in
     record {
-      text = c .run .ensures;
-      run = made-weaker (c .run .result) (λ v. vec-items v ≡ written input) (λ v. Played input (vec-items v)) (λ v e. subst (Played input) (sym e) (plays-right input)) (c .run .ensures);
+      text = c .ran .ensures;
+      run = made-weaker (c .ran .result) (λ v. vec-items v ≡ written input) (λ v. Played input (vec-items v)) (λ v e. subst (Played input) (sym e) (plays-right input)) (c .ran .ensures);
     }

@@ -3,6 +3,7 @@ pub mod Places
 pub mod Lining
 pub mod Model
 pub mod View
+pub mod UnderWay
 pub mod Build
 pub mod Work
 pub mod Turn

@@ -1,0 +1,5 @@
+mod Rows
+mod Follows
+mod Accepting
+mod Granting
+mod Returning

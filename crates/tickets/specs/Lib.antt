@@ -1,0 +1,4 @@
+pub mod Submissions
+pub mod Ends
+pub mod Refusals
+pub mod Tickets

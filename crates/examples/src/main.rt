@@ -1,4 +1,5 @@
 //! Runs each example script, and says whether it wrote what is expected of it.
+#![tactic(auto)]
 use script::run::run_script;
 use std::{fs, io};
 

@@ -1,12 +1,12 @@
 -- The kinds that keep one list of arrivals obey the laws, and their lines are sound. Assumes nothing.
-use Rattle.std.specs.Prelude.{◌≡◌, ℕ, ◌<◌, true, false, cond, ◌||◌, eqb, List, [], ◌∷◌, ◌++◌, Some, None, Option, ◌==◌, refl}
+use Rattle.std.specs.Prelude.{◌≡◌, ℕ, ◌<◌, ◌≤◌, true, false, cond, ◌||◌, eqb, List, [], ◌∷◌, ◌++◌, Some, None, Option, ◌==◌, refl}
 use Rattle.std.proofs.Common.{sym, ap, ◌∙◌, append-nil, ⊎_elim, arith}
 use Rattle.std.proofs.lemmas.Bool.{true≢false, both_ways, eq-eqb, or_cases, and_from, not_from_false, cases_Bool, eqb-true, ltb-true}
 use Rattle.lines.specs.declared.arrival.Arrival.{Arrival}
 use Rattle.lines.specs.Lines.{Lines, lines, has, put, without, minus, distinct, Sound}
 use Rattle.lines.specs.Kinds.{Laws, Picks}
 use Rattle.lines.specs.Arrivals.{arrival, members, seen, sound, quit, earliest}
-use Rattle.lines.specs.Choosing.{left_by, choosing}
+use Rattle.lines.specs.Choosing.{left_by, choosing, first_come, ranked}
 use Rattle.lines.specs.Facts.{first_sound, has_seen, members_append}
 
 -- lines that agree at each number are equal
@@ -130,3 +130,17 @@ sound_members n es s = record {
   served = λ l t h. (served n t l es s h).0;
   inside = λ l t h. (served n t l es s h).1;
 }
+
+-- each of the two kinds serves a thread, and no more than a nub can have
+pub first_come_serves : (1 ≤ first_come.serves) × (first_come.serves ≤ 64)
+first_come_serves = (omega arith, omega arith)
+
+pub ranked_serves : (1 ≤ ranked.serves) × (ranked.serves ≤ 64)
+ranked_serves = (omega arith, omega arith)
+
+-- where nobody has arrived every line is empty
+pub first_come_empty : (l : ℕ) → first_come.line (tt, []) l ≡ []
+first_come_empty l = refl
+
+pub ranked_empty : (ranks : List ℕ) (l : ℕ) → ranked.line (ranks, []) l ≡ []
+ranked_empty ranks l = refl

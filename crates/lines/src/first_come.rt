@@ -4,8 +4,7 @@ ghost use Rattle.lines.specs.Lines.{every_answer, after, marked};
 ghost use Rattle.lines.specs.Arrivals.{members, others, earliest};
 ghost use Rattle.lines.specs.Held.{held};
 ghost use Rattle.lines.specs.Choosing.{first_come};
-ghost use Rattle.lines.specs.Lawful.{choosing_laws, first_picks, sound_members};
-ghost use Rattle.std.proofs.Common.{rules};
+ghost use Rattle.lines.specs.Lawful.{choosing_laws, first_picks, sound_members, first_come_serves, first_come_empty};
 
 use crate::arrivals::Arrivals;
 use crate::decline::Decline;
@@ -44,9 +43,9 @@ impl LineSet for FirstCome {
 
     ghost sound = { λ s. sound_members 64 (held s.arrivals) s.arrivals.apart };
 
-    ghost serving = { Prim.search rules };
+    ghost serving = { first_come_serves };
 
-    ghost new = { Prim.search rules };
+    ghost new = { λ _ l. first_come_empty l };
 
     fn limit() -> usize {
         Self::SERVES

@@ -1,4 +1,6 @@
 //! Sets of waiting lines: the trait `LineSet`, and the two kinds `FirstCome` and `Ranked`.
+#![tactic(auto)]
+
 mod arrival;
 mod arrivals;
 pub mod decline;

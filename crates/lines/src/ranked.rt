@@ -6,9 +6,8 @@ ghost use Rattle.lines.specs.Held.{held};
 ghost use Rattle.lines.specs.Ranking.{best, pick, beats};
 ghost use Rattle.lines.specs.Highest.{RankedTakesHighest};
 ghost use Rattle.lines.specs.Choosing.{ranked};
-ghost use Rattle.lines.specs.Lawful.{choosing_laws, sound_members};
+ghost use Rattle.lines.specs.Lawful.{choosing_laws, sound_members, ranked_serves, ranked_empty};
 ghost use Rattle.lines.specs.Best.{best_picks};
-ghost use Rattle.std.proofs.Common.{rules, arith};
 
 use crate::arrivals::Arrivals;
 use crate::decline::Decline;
@@ -95,9 +94,9 @@ impl LineSet for Ranked {
 
     ghost sound = { λ s. sound_members 32 (held s.arrivals) s.arrivals.apart };
 
-    ghost serving = { earliest (Prim.search rules, Prim.grind (arith, Self.row.coded.inj)) };
+    ghost serving = { ranked_serves };
 
-    ghost new = { earliest (Prim.search rules, Prim.grind (arith, Self.row.coded.inj)) };
+    ghost new = { λ ranks l. ranked_empty ranks l };
 
     fn limit() -> usize {
         Self::SERVES

@@ -1,4 +1,5 @@
 //! What sets of lines do on examples.
+#![tactic(auto)]
 
 #[cfg(test)]
 mod tests {

@@ -1,4 +1,5 @@
 //! The nub over any kind of waiting lines: build, submission and turn.
+#![tactic(auto)]
 mod build;
 mod calls;
 mod numbers;

@@ -1,4 +1,5 @@
 //! Replays one list of events on nubs over both kinds of lines, and on one whose sizes the check declines.
+#![tactic(auto)]
 use lines::first_come::FirstCome;
 use lines::ranked::Ranked;
 use nub::{Answer, Event, Sizes};

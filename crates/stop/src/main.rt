@@ -2,6 +2,7 @@
 //!
 //! Mutex 0 guards a store, and a consumer that finds it empty waits on condition 0 by AlertWait. Each person has a turn in
 //! each round; the operator comes late, and alerts both consumers.
+#![tactic(auto)]
 mod consumer;
 mod operator;
 mod producer;

@@ -16,8 +16,8 @@ loop-i-preserved g c =
     let es = c.args.entries.now in
     let zs = c.args.answers.now in
     let m = least c.min-n.result (length es) (length zs) c.min-n.ensures in
-    at_step K c.args.nub.now.core (g.L.LineSet.state c.args.nub.now.lines) es zs i zero c.loop-i.nub.core c.enter.new.self.core (g.L.LineSet.state c.loop-i.nub.lines) (g.L.LineSet.state c.enter.new.self.lines) c.loop-i.answers c.in-numbers.result c.event-of.result
-    (omega (arith, c.loop-i-test.true, m.left)) (omega (arith, c.loop-i-test.true, m.right)) c.loop-i.invariant c.event-of.ensures c.enter.ensures.core c.enter.ensures.lines (c.in-numbers.ensures ∙ ap in_numbers c.enter.ensures.answer)
+    at_step K c.args.nub.now.core (g.L.LineSet.state c.args.nub.now.lines) es zs i zero c.loop-i.nub.core c.enter.new.self.core (g.L.LineSet.state c.loop-i.nub.lines) (g.L.LineSet.state c.enter.new.self.lines) c.loop-i.answers c.in_numbers.result c.event_of.result
+    (omega (arith, c.loop-i-test.true, m.left)) (omega (arith, c.loop-i-test.true, m.right)) c.loop-i.invariant c.event_of.ensures c.enter.ensures.core c.enter.ensures.lines (c.in_numbers.ensures ∙ ap in_numbers c.enter.ensures.answer)
 
 pub returns : goal.returns
 returns g c =

@@ -14,14 +14,14 @@ returns g c =
     let a = c.args.asked in
     let es = c.args.entries.now in
     let zs = c.args.answers.now in
-    let told = c.build-and-perform.ensures in
-    let q = c.asked-of.ensures in
-    let s = c.start-of.ensures in
-    let b : a.start ≤ 4294967295 = omega (arith, c.start-of.type-inv, s) in
+    let told = c.build_and_perform.ensures in
+    let q = c.asked_of.ensures in
+    let s = c.start_of.ensures in
+    let b : a.start ≤ 4294967295 = omega (arith, c.start_of.type_inv, s) in
     record {
       row = told.row ∙ ap (λ (z : Sizes). row_of (sizes_verdict K.serves z)) q;
       answers =
-          told.answers ∙ ap (λ (z : Sizes). granted (sizes_verdict K.serves z) (played K (built_core (built_sizes K.serves z) c.start-of.result) f es zs) zs) q
+          told.answers ∙ ap (λ (z : Sizes). granted (sizes_verdict K.serves z) (played K (built_core (built_sizes K.serves z) c.start_of.result) f es zs) zs) q
           ∙ ap (λ (n : ℕ). granted (sizes_verdict K.serves (asked_of a)) (played K (built_core (built_sizes K.serves (asked_of a)) n) f es zs) zs) s;
       run = runs_over K m.lawful m.serving (asked_of a) a.start f (events_for (length zs) es) b (m.new c.args.maker);
     }

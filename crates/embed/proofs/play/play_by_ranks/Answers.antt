@@ -5,4 +5,4 @@ use Rattle.embed.proofs.play.play_by_ranks.Goals as goal
 
 pub returns : goal.returns
 returns c =
-    subst (λ (rs : List ℕ). Plays ranked (rs, []) c.args.asked c.args.entries.now c.args.answers.now c.play.result c.play.new.answers) c.ranks-of.ensures c.play.ensures
+    subst (λ (rs : List ℕ). Plays ranked (rs, []) c.args.asked c.args.entries.now c.args.answers.now c.play.result c.play.new.answers) c.ranks_of.ensures c.play.ensures

@@ -10,7 +10,7 @@ loop-n-preserved c =
     let n = c.loop-n.n in
     let rs = c.args.ranks.now in (
       length-set c.loop-n.all n _ ∙ i.0,
-      take_more_set c.loop-n.all n _ (omega (arith, i.0)) ∙ (λ j. i.1 j ++ c.rank-at.ensures j ∷ []) ∙ sym (ranks_more rs n),
+      take_more_set c.loop-n.all n _ (omega (arith, i.0)) ∙ (λ j. i.1 j ++ c.rank_at.ensures j ∷ []) ∙ sym (ranks_more rs n),
     )
 
 pub returns : goal.returns

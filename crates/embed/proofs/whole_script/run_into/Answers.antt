@@ -7,7 +7,7 @@ pub returns-in-Ok : goal.returns-in-Ok
 returns-in-Ok c =
     let t = c.in-Ok.ensures.text in
     record {
-      text = inr (c.len.ensures ∙ sym c.as-slice.ensures.len ∙ ap length (c.as-slice.ensures.value ∙ t), c.lay.ensures ∙ ap (λ (xs : List ℕ). laid xs c.args.output.now) (c.as-slice.ensures.value ∙ t));
+      text = inr (c.len.ensures ∙ sym c.as_slice.ensures.len ∙ ap length (c.as_slice.ensures.value ∙ t), c.lay.ensures ∙ ap (λ (xs : List ℕ). laid xs c.args.output.now) (c.as_slice.ensures.value ∙ t));
       run = plays_right c.args.input.now;
     }
 

@@ -18,33 +18,33 @@ left k t n a b v = by_verdict v (with_threads k (set k.threads t (started (call_
 pub returns-in-Err : goal.returns-in-Err
 returns-in-Err c =
     let k = c.args.self.now in
-    let i : is_idle (thread_at k c.args.t).stage ≡ true = ap is_idle (sym c.stage-at.ensures) ∙ sym c.if-not-is-idle.ensures in
+    let i : is_idle (thread_at k c.args.t).stage ≡ true = ap is_idle (sym c.stage_at.ensures) ∙ sym c.if-not-is_idle.ensures in
     let e = way_refused k c.args.t c.args.code c.args.a c.args.b c.in-Err.decline c.if-t-self.false i c.in-Err.ensures in
     record { core = sym (ap (left k c.args.t c.args.code c.args.a c.args.b) e); answer = sym (ap answer_in e) }
 
 pub returns-then-foreign : goal.returns-then-foreign
 returns-then-foreign c =
     let k = c.args.self.now in
-    let i : is_idle (thread_at k c.args.t).stage ≡ true = ap is_idle (sym c.stage-at.ensures) ∙ sym c.if-not-is-idle.ensures in
+    let i : is_idle (thread_at k c.args.t).stage ≡ true = ap is_idle (sym c.stage_at.ensures) ∙ sym c.if-not-is_idle.ensures in
     let e = way_foreign k c.args.t c.args.code c.args.a c.args.b c.in-Ok.call c.if-t-self.false i c.in-Ok.ensures (sym c.if-foreign.ensures) in
     record { core = sym (ap (left k c.args.t c.args.code c.args.a c.args.b) e); answer = sym (ap answer_in e) }
 
 pub returns-then-high : goal.returns-then-high
 returns-then-high c =
     let k = c.args.self.now in
-    let i : is_idle (thread_at k c.args.t).stage ≡ true = ap is_idle (sym c.stage-at.ensures) ∙ sym c.if-not-is-idle.ensures in
+    let i : is_idle (thread_at k c.args.t).stage ≡ true = ap is_idle (sym c.stage_at.ensures) ∙ sym c.if-not-is_idle.ensures in
     let e = way_high k c.args.t c.args.code c.args.a c.args.b c.in-Ok.call c.if-t-self.false i c.in-Ok.ensures (sym c.if-foreign.ensures) (sym c.if-high.ensures) in
     record { core = sym (ap (left k c.args.t c.args.code c.args.a c.args.b) e); answer = sym (ap answer_in e) }
 
 pub returns : goal.returns
 returns c =
     let k = c.args.self.now in
-    let i : is_idle (thread_at k c.args.t).stage ≡ true = ap is_idle (sym c.stage-at.ensures) ∙ sym c.if-not-is-idle.ensures in
+    let i : is_idle (thread_at k c.args.t).stage ≡ true = ap is_idle (sym c.stage_at.ensures) ∙ sym c.if-not-is_idle.ensures in
     let e = way_granted k c.args.t c.args.code c.args.a c.args.b c.in-Ok.call c.if-t-self.false i c.in-Ok.ensures (sym c.if-foreign.ensures) (sym c.if-high.ensures) in
     let d = call_for k c.args.t c.args.code c.args.a c.args.b c.in-Ok.call c.in-Ok.ensures in
     record {
       core =
-          ap (λ (ts : List Thread). with_threads k ts) (c.start-at.ensures ∙ ap (λ (o : Option Call). set k.threads c.args.t (started o (thread_at k c.args.t))) d)
+          ap (λ (ts : List Thread). with_threads k ts) (c.start_at.ensures ∙ ap (λ (o : Option Call). set k.threads c.args.t (started o (thread_at k c.args.t))) d)
           ∙ sym (ap (left k c.args.t c.args.code c.args.a c.args.b) e);
       answer = sym (ap answer_in e);
     }

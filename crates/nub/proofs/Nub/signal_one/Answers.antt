@@ -9,13 +9,13 @@ use Rattle.nub.specs.Work.{one_of, one_less, signalled_on, freed_mask_on}
 use Rattle.nub.proofs.Taken.{signalled_marks, mask_marks}
 use Rattle.nub.proofs.Nub.signal_one.Goals as goal
 
-pub returns-in-default : goal.returns-in-default
-returns-in-default g c =
+pub returns-in_default : goal.returns-in_default
+returns-in_default g c =
     let K = g.L.LineSet.kind in
     let k = c.args.self.now.core in
     let f = g.L.LineSet.state c.args.self.now.lines in
     let us : Option ℕ → List ℕ = λ l. to_list (one_of K l f) in
-    let q = c.in-default.ensures in
+    let q = c.in_default.ensures in
     record {
       core = ap (λ (o : Option ℕ). signalled_on SignalOne o (us (by_condition o)) k) q;
       lines = ap (λ (o : Option ℕ). one_less K (by_condition o) f) q;
@@ -30,13 +30,13 @@ returns g c =
     let i = c.in-Some.c in
     let q = c.in-Some.ensures in
     let us : Option ℕ → List ℕ = λ l. to_list (one_of K l f) in
-    let bs : List Bool = c.mark-one.new.taken in
-    let l : length bs ≡ 64 = c.mark-one.auto.taken in
-    let a : c.condition-line.result ≡ at_line (condition i) = c.condition-line.ensures.line in
+    let bs : List Bool = c.mark_one.new.taken in
+    let l : length bs ≡ 64 = c.mark_one.auto.taken in
+    let a : c.condition_line.result ≡ at_line (condition i) = c.condition_line.ensures.line in
     let m : (n : ℕ) → n < 64 → get_or bs n false ≡ has n (us (at_line (condition i))) =
-    λ n h. c.mark-one.ensures.marks n h ∙ ap (λ (x : Bool). x || has n (us c.condition-line.result)) (get_or-replicate 64 n false false h) ∙ ap (λ (o : Option ℕ). has n (us o)) a in
+    λ n h. c.mark_one.ensures.marks n h ∙ ap (λ (x : Bool). x || has n (us c.condition_line.result)) (get_or-replicate 64 n false false h) ∙ ap (λ (o : Option ℕ). has n (us o)) a in
     record {
       core = c.count_up.ensures.core ∙ signalled_marks (us (at_line (condition i))) bs i k l m SignalOne c.count_up.ensures.full ∙ ap (λ (o : Option ℕ). signalled_on SignalOne o (us (by_condition o)) k) q;
-      lines = c.mark-one.ensures.after ∙ ap (λ (o : Option ℕ). one_less K o f) a ∙ ap (λ (o : Option ℕ). one_less K (by_condition o) f) q;
+      lines = c.mark_one.ensures.after ∙ ap (λ (o : Option ℕ). one_less K o f) a ∙ ap (λ (o : Option ℕ). one_less K (by_condition o) f) q;
       mask = c.count_up.ensures.value ∙ mask_marks (us (at_line (condition i))) bs i k l m ∙ ap (λ (o : Option ℕ). freed_mask_on o (us (by_condition o)) k) q;
     }

@@ -12,16 +12,16 @@ returns-in-Some g c =
     record {
       core =
           ap (λ (ts : List Thread). with_threads k ts)
-          (c.wake-at.ensures ∙ sym (wake_one WakeGate c.in-Some.t k.threads) ∙ ap (λ (o : Option ℕ). wake_from WakeGate (to_list o) 0 k.threads) c.in-Some.ensures.value);
+          (c.wake_at.ensures ∙ sym (wake_one WakeGate c.in-Some.t k.threads) ∙ ap (λ (o : Option ℕ). wake_from WakeGate (to_list o) 0 k.threads) c.in-Some.ensures.value);
       lines = c.in-Some.ensures.after;
     }
 
-pub returns-in-default : goal.returns-in-default
-returns-in-default g c =
+pub returns-in_default : goal.returns-in_default
+returns-in_default g c =
     let k = c.args.self.now.core in
     record {
       core =
           ap (λ (ts : List Thread). with_threads k ts)
-          (sym (wake_none WakeGate k.threads) ∙ ap (λ (o : Option ℕ). wake_from WakeGate (to_list o) 0 k.threads) c.in-default.ensures.value);
-      lines = c.in-default.ensures.after;
+          (sym (wake_none WakeGate k.threads) ∙ ap (λ (o : Option ℕ). wake_from WakeGate (to_list o) 0 k.threads) c.in_default.ensures.value);
+      lines = c.in_default.ensures.after;
     }

@@ -3,7 +3,7 @@ use Rattle.std.proofs.lemmas.Bool.{or_left, or_right, or_from}
 use Rattle.thread.specs.Turns.{state_of, idle_thread, between_on}
 use Rattle.nub.proofs.Taken.{mask_more, mask_skip}
 use Rattle.nub.proofs.records.mask.Goals as goal
-use Rattle.nub.proofs.records.mask.Goals.{then-taken-n, then-taken-n-via-then-taken-n, then-taken-n-via-else-taken-n+then-is-between, else-taken-n+else-is-between}
+use Rattle.nub.proofs.records.mask.Goals.{then-taken-n, then-taken-n-via-then-taken-n, then-taken-n-via-else-taken-n+then-is_between, else-taken-n+else-is_between}
 
 pub loop-n-init : goal.loop-n-init
 loop-n-init c = refl
@@ -18,8 +18,8 @@ loop-n-preserved c =
           mask_more p n _ _ few c.loop-n.invariant
           (elim w.then-taken-n.branch [
             | then-taken-n-via-then-taken-n w' ↦ or_left _ _ w'.if-taken-n.true
-            | then-taken-n-via-else-taken-n+then-is-between w' ↦ or_right _ _ (sym w'.if-is-between.ensures)
+            | then-taken-n-via-else-taken-n+then-is_between w' ↦ or_right _ _ (sym w'.if-is_between.ensures)
           ])
           w.mask-is
-      | else-taken-n+else-is-between w ↦ mask_skip p n _ _ c.loop-n.invariant (or_from _ _ w.if-taken-n.false (sym w.if-is-between.ensures)) w.mask-is
+      | else-taken-n+else-is_between w ↦ mask_skip p n _ _ c.loop-n.invariant (or_from _ _ w.if-taken-n.false (sym w.if-is_between.ensures)) w.mask-is
     ]

@@ -36,6 +36,6 @@ returns g c =
     let s = g.L.LineSet.state c.loop-t.lines in
     let s' = g.L.LineSet.state c.take.new.lines in
     record {
-      after = drain_end K m.lawful s s' k c.in-default.ensures.value c.in-default.ensures.after ∙ c.loop-t.invariant.1;
-      marks = marks_end (standing K (g.L.LineSet.state c.args.lines.now) k) (standing K s k) c.args.taken.now c.loop-t.taken (standing_end K m.lawful s s' k c.in-default.ensures.value) c.loop-t.invariant.0;
+      after = drain_end K m.lawful s s' k c.in_default.ensures.value c.in_default.ensures.after ∙ c.loop-t.invariant.1;
+      marks = marks_end (standing K (g.L.LineSet.state c.args.lines.now) k) (standing K s k) c.args.taken.now c.loop-t.taken (standing_end K m.lawful s s' k c.in_default.ensures.value) c.loop-t.invariant.0;
     }

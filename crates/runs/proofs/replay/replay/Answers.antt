@@ -37,19 +37,19 @@ loop-event-preserved g c =
     let i = c.loop-event.event-index in
     let e : Event = get_or es i (Submission 0 0 0 0) in
     let l : i < length es = c.loop-event-test.true in (
-      along_next K m.lawful (take i es) (take (i + 1) es) (vec_items c.loop-event.answers) (vec_items c.enter-one.new.answers) k c.enter-one.new.nub.core f (g.L.LineSet.state c.enter-one.new.nub.lines) e (moves K k f e).answer
-          (m.sound c.loop-event.nub.lines) h.0 (take_more es i (Submission 0 0 0 0) l) c.in-ok-enter-one.ensures.answer refl c.enter-one.ensures.core c.enter-one.ensures.lines,
-      ran_next K c.make-nub.result.core (g.L.LineSet.state c.make-nub.result.lines) (take i es) (take (i + 1) es) (vec_items c.loop-event.answers) (vec_items c.enter-one.new.answers) k c.enter-one.new.nub.core f (g.L.LineSet.state c.enter-one.new.nub.lines) e (moves K k f e).answer
-          h.1 (take_more es i (Submission 0 0 0 0) l) c.in-ok-enter-one.ensures.answer refl c.enter-one.ensures.core c.enter-one.ensures.lines,
+      along_next K m.lawful (take i es) (take (i + 1) es) (vec_items c.loop-event.answers) (vec_items c.enter_one.new.answers) k c.enter_one.new.nub.core f (g.L.LineSet.state c.enter_one.new.nub.lines) e (moves K k f e).answer
+          (m.sound c.loop-event.nub.lines) h.0 (take_more es i (Submission 0 0 0 0) l) c.in_ok-enter_one.ensures.answer refl c.enter_one.ensures.core c.enter_one.ensures.lines,
+      ran_next K c.make-nub.result.core (g.L.LineSet.state c.make-nub.result.lines) (take i es) (take (i + 1) es) (vec_items c.loop-event.answers) (vec_items c.enter_one.new.answers) k c.enter_one.new.nub.core f (g.L.LineSet.state c.enter_one.new.nub.lines) e (moves K k f e).answer
+          h.1 (take_more es i (Submission 0 0 0 0) l) c.in_ok-enter_one.ensures.answer refl c.enter_one.ensures.core c.enter_one.ensures.lines,
     )
 
-pub returns-in-err-enter-one : goal.returns-in-err-enter-one
-returns-in-err-enter-one g c =
+pub returns-in_err-enter_one : goal.returns-in_err-enter_one
+returns-in_err-enter_one g c =
     let m = g.met.L.LineSet in
     let b : c.args.start ≤ 4294967295 = omega (arith, c.ranges.start.fits) in
     record {
-      run = let p = err_from_is_err_and c.from-residual.result c.from-residual.ensures.1 in rw p.1 tt;
-      tables = let p = err_from_is_err_and c.from-residual.result c.from-residual.ensures.1 in rw p.1 tt;
+      run = let p = err_from_is_err_and c.from_residual.result c.from_residual.ensures.1 in rw p.1 tt;
+      tables = let p = err_from_is_err_and c.from_residual.result c.from_residual.ensures.1 in rw p.1 tt;
       granted = (runs_over g.L.LineSet.kind m.lawful m.serving c.args.sizes c.args.start (g.L.LineSet.fresh c.args.maker) c.args.events.now b (m.new c.args.maker)).granted;
     }
 

@@ -5,8 +5,8 @@ use Rattle.tokens.proofs.numbers.numbers.Goals as goal
 pub loop-i-init : goal.loop-i-init
 loop-i-init g c = start g.row.N c.args.text.now
 
-pub returns-in-default-value : goal.returns-in-default-value
-returns-in-default-value g c = at_high c.loop-i.invariant c.in-Number.digits.now c.loop-i-test.true c.in-Number.ensures.value c.in-default-value.ensures
+pub returns-in_default-value : goal.returns-in_default-value
+returns-in_default-value g c = at_high c.loop-i.invariant c.in-Number.digits.now c.loop-i-test.true c.in-Number.ensures.value c.in_default-value.ensures
 
 pub returns-in-Wrong : goal.returns-in-Wrong
 returns-in-Wrong g c = at_wrong c.loop-i.invariant c.in-Wrong.n c.loop-i-test.true c.in-Wrong.ensures.value
@@ -14,5 +14,5 @@ returns-in-Wrong g c = at_wrong c.loop-i.invariant c.in-Wrong.n c.loop-i-test.tr
 pub loop-i-preserved : goal.loop-i-preserved
 loop-i-preserved g c = one_more c.loop-i.invariant c.in-Number.digits.now c.in-Some.n c.loop-i-test.true c.in-Number.ensures.value c.in-Some.ensures c.in-Number.ensures.within
 
-pub returns-then-is-empty : goal.returns-then-is-empty
-returns-then-is-empty g c = done c.loop-i.invariant c.loop-i-test.false (true-eqb _ _ c.if-is-empty.ensures)
+pub returns-then-is_empty : goal.returns-then-is_empty
+returns-then-is_empty g c = done c.loop-i.invariant c.loop-i-test.false (true-eqb _ _ c.if-is_empty.ensures)

@@ -25,10 +25,10 @@ loop-i-preserved c =
     let line = ap (λ e. e.line) c.at.ensures in
     elim c.if-at-line.branch [
       | then-at-line w ↦
-          subst (Chosen es l (best s.ranks (members (take (i + 1) es) l))) (sym (w.so-far-is ∙ w.better.ensures))
+          subst (Chosen es l (best s.ranks (members (take (i + 1) es) l))) (sym (w.so_far-is ∙ w.better.ensures))
           (best_more s.ranks es l i lt c.loop-i.so_far c.loop-i.invariant (sym line ∙ w.if-at-line.true))
       | else-at-line w ↦
-          subst (Chosen es l (best s.ranks (members (take (i + 1) es) l))) (sym w.so-far-is)
+          subst (Chosen es l (best s.ranks (members (take (i + 1) es) l))) (sym w.so_far-is)
           (best_skip s.ranks es l i lt c.loop-i.so_far c.loop-i.invariant (λ e. w.if-at-line.false (line ∙ e)))
     ]
 

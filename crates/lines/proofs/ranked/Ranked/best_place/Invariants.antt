@@ -5,4 +5,4 @@ use Rattle.lines.specs.Ranking.{best}
 use Rattle.lines.proofs.ranked.Ranked.best_place.Given as goal
 
 abbrev pub invariant-loop-i : goal.invariant-loop-i
-invariant-loop-i l = Chosen (held l.self.arrivals) l.line (best l.self.ranks (members (take l.i (held l.self.arrivals)) l.line)) l.so-far
+invariant-loop-i l = Chosen (held l.self.arrivals) l.line (best l.self.ranks (members (take l.i (held l.self.arrivals)) l.line)) l.so_far

@@ -1,11 +1,11 @@
 -- A line taken from until it is empty: the arrivals of the other lines are left, and its members are marked. Assumes nothing.
-use Rattle.std.proofs.Common.{◌≡◌, ℕ, zero, suc, ◌+◌, ◌<◌, ◌≤◌, Bool, true, false, cond, not, ◌&&◌, ◌||◌, eqb, ltb, List, [], ◌∷◌, ◌++◌, length, get_or, take, drop, set, Some, None, Option, sym, refl, ap, ◌∙◌, subst, ⊎_elim, append-nil, add-zero, arith}
+use Rattle.std.proofs.Common.{◌≡◌, ℕ, ◌+◌, ◌<◌, ◌≤◌, Bool, true, false, cond, eqb, List, [], ◌∷◌, ◌++◌, length, get_or, take, drop, set, sym, refl, ap, ◌∙◌, append-nil, add-zero, arith}
 use Rattle.std.proofs.lemmas.List.{length-set, take_more, take_more_set, drop-set-lt, drop-drop, get_or-drop}
-use Rattle.std.proofs.lemmas.Bool.{true≢false, cases_Bool, eq-eqb, ne_eqb, eqb-true, and_parts, and_from, or_parts, or_from, not-true, not_from_false}
+use Rattle.std.proofs.lemmas.Bool.{eq-eqb, ne_eqb, or_parts, or_from}
 use Rattle.lines.specs.declared.arrival.Arrival.{Arrival}
-use Rattle.lines.specs.Lines.{has, put, without, distinct, marked}
-use Rattle.lines.specs.Arrivals.{arrival, members, seen, sound, quit, others, line_at, thread_at}
-use Rattle.lines.specs.Facts.{First, first_sound, members_append}
+use Rattle.lines.specs.Lines.{marked}
+use Rattle.lines.specs.Arrivals.{arrival, members, seen, sound, others, line_at, thread_at}
+use Rattle.lines.specs.Facts.{first_sound, members_append}
 use Rattle.lines.proofs.Leaving.{sound_from}
 
 -- one place more

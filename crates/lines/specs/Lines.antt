@@ -12,7 +12,7 @@
 --     marked xs bs                  the marks bs, with those of xs set
 --     after r new old               what is left by an operation that answers r
 --     number d                      the number of the refusal d
-use Rattle.std.specs.Prelude.{◌≡◌, ℕ, zero, suc, ◌<◌, Bool, true, false, cond, not, ◌&&◌, ◌||◌, List, [], ◌∷◌, set, Some, None, Ok, Err, Option, Result, ◌==◌, nat_lt, slice_set}
+use Rattle.std.specs.Prelude.{◌≡◌, ℕ, zero, suc, ◌<◌, Bool, true, false, cond, not, ◌&&◌, ◌||◌, List, [], ◌∷◌, Some, None, Ok, Err, Option, Result, ◌==◌, nat_lt, slice_set}
 use Rattle.lines.specs.declared.decline.Decline.{Decline}
 use Rattle.lines.specs.declared.decline.Decline.TheVariants.{NoSuchLine, NotServed, AlreadyInSet, NotInLine}
 

@@ -1,5 +1,6 @@
 //! The script language: from the bytes read to the bytes written, over any machine that takes submissions and turns.
 #![tactic(auto)]
+
 pub mod answer;
 pub mod held;
 pub mod laws;

@@ -1,5 +1,5 @@
 use Rattle.std.proofs.Common.{◌∙◌, arith}
-use Rattle.lines.proofs.Emptying.{Up, up_at, up_skip, up_more}
+use Rattle.lines.proofs.Emptying.{up_at, up_skip, up_more}
 use Rattle.lines.proofs.arrivals.changes.close_up.Goals as goal
 use Rattle.lines.proofs.arrivals.changes.close_up.Goals.{then-e-line, else-e-line}
 

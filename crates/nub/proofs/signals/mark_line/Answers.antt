@@ -7,7 +7,7 @@ use Rattle.nub.proofs.signals.mark_line.Given as given
 use Rattle.nub.proofs.signals.mark_line.Goals as goal
 
 -- what the take of a turn told
-took_some : (g : given.Over) (c : goal.After-slice-known-in-Some·1 g) → Took g.L.LineSet.kind (g.L.LineSet.state c.loop-t.lines) c.args.k (Some c.in-Some.t) (g.L.LineSet.state c.take.new.lines)
+took_some : (g : given.Over) (c : goal.After-slice_known-in-Some-1 g) → Took g.L.LineSet.kind (g.L.LineSet.state c.loop-t.lines) c.args.k (Some c.in-Some.t) (g.L.LineSet.state c.take.new.lines)
 took_some g c =
     gave g.L.LineSet.kind g.met.L.LineSet.lawful (g.L.LineSet.state c.loop-t.lines) (g.L.LineSet.state c.take.new.lines) c.args.k c.in-Some.t c.in-Some.ensures.value c.in-Some.ensures.after
 

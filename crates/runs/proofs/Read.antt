@@ -68,7 +68,7 @@ stands_cond at_cond c = eqb_same (cond_of c)
 
 pub set_of : (h : ThreadState) (n : ℕ) → in_set_of h n (cond_of h.call) ≡ in_set h.stage h.call.kind (eqb h.kept n)
 set_of h n =
-    rw (stands_cond (marks h.stage).line h.call, eqb_same (cond_of h.call), mathlib.Core.Bool.and_true (is_between h.stage h.call.kind))
+    rw (stands_cond (marks h.stage).line h.call, eqb_same (cond_of h.call), mathlib.Core.Bool.and-true (is_between h.stage h.call.kind))
 
 pub waits_self : (s : NubState) → Inv s → (t : ℕ) → read_waits s (cond_of (s.thread t).call) t ≡ in_set (s.thread t).stage (s.thread t).call.kind (seen s t).same
 waits_self s inv t = waits_is s inv (cond_of (s.thread t).call) t ∙ set_of (s.thread t) (s.counts (cond_of (s.thread t).call))
@@ -258,7 +258,7 @@ module _ (s : NubState) (t : ℕ) (k : List ℕ) (inv : Inv s) (busy : is_idle (
   held_own h =
       ap (held_by s.thread (s.thread t).call.x) (owns_is h)
       ∙ ap (λ (z : Bool). cond {A = Option ℕ} z none (some t))
-      (ap (λ (z : Bool). at_clear (s.thread t).stage (s.thread t).call.kind && z) (eqb_same (s.thread t).call.x) ∙ mathlib.Core.Bool.and_true (at_clear (s.thread t).stage (s.thread t).call.kind))
+      (ap (λ (z : Bool). at_clear (s.thread t).stage (s.thread t).call.kind && z) (eqb_same (s.thread t).call.x) ∙ mathlib.Core.Bool.and-true (at_clear (s.thread t).stage (s.thread t).call.kind))
 
   pub own_fact : (is_hDrop (holder_e (row_of s t).action) || at_clear (s.thread t).stage (s.thread t).call.kind) ≡ true → owns_now (s.thread t).stage (s.thread t).call.kind ≡ true
   own_fact h =

@@ -5,7 +5,7 @@ use std::{fs, io};
 
 // What is expected of `control` is wrong on purpose: the comparison must tell.
 const NAMES: [&str; 15] = [
-    "alert_then_signal",
+    "alert-then-signal",
     "alertp-leaves",
     "alertwait-compare",
     "broadcast",

@@ -60,7 +60,7 @@ fn main(rt: HostRuntime) -> io::Result<()> {
         semaphores: 0,
     };
     let first = replay::<FirstCome>(rt.alloc(), sizes, 0, (), &EVENTS)?;
-    show_all(&rt, "first_come", first.answers.as_slice())?;
+    show_all(&rt, "first-come", first.answers.as_slice())?;
     let ranked = replay::<Ranked>(rt.alloc(), sizes, 0, [7; 32], &EVENTS)?;
     show_all(&rt, "ranked", ranked.answers.as_slice())?;
     let too_many = Sizes {

@@ -3,6 +3,7 @@
 //! Mutex 0 guards a store, and a consumer that finds it empty waits on condition 0 by AlertWait. Each person has a turn in
 //! each round; the operator comes late, and alerts both consumers.
 #![tactic(auto)]
+
 mod consumer;
 mod operator;
 mod producer;
@@ -17,6 +18,8 @@ use nub::{Nub, Sizes};
 use operator::Operator;
 use producer::Producer;
 use said::Said;
+use std::fmt;
+use std::mem::ManuallyDrop;
 use strangers::{Stray, strangers};
 
 /// What the mutex guards: how many items there are.
@@ -51,6 +54,27 @@ pub struct People {
 pub enum Unfinished {
     People(People),
     Stray(Stray),
+}
+
+/// What the program ends with where somebody has not come to its end: tickets and holds cannot be let go, so what is left in
+/// hand is kept until the process is gone.
+#[derive(Drop)]
+pub struct Ended {
+    _left: ManuallyDrop<Unfinished>,
+}
+
+impl From<Unfinished> for Ended {
+    fn from(left: Unfinished) -> Ended {
+        Ended {
+            _left: unsafe { ManuallyDrop::new_unchecked(left) },
+        }
+    }
+}
+
+impl fmt::Debug for Ended {
+    fn fmt<W: fmt::Write>(&self, f: &mut fmt::Formatter<W>) -> fmt::Result {
+        f.write_str("not all have come to their end")
+    }
 }
 
 fn say(rt: &HostRuntime, said: Option<Said>) {
@@ -123,14 +147,14 @@ fn play<L: LineSet>(rt: &HostRuntime, nub: &mut Nub<L>) -> Result<(), Unfinished
     }
 }
 
-fn main(rt: HostRuntime) -> Result<(), Unfinished> {
+fn main(rt: HostRuntime) -> Result<(), Ended> {
     let sizes = Sizes {
         threads: 4,
         mutexes: 1,
         conditions: 1,
         semaphores: 0,
     };
-    let _ = println!(rt; "first_come lines:");
+    let _ = println!(rt; "first-come lines:");
     let mut nub = Nub::<FirstCome>::make(sizes, 0, ());
     play(&rt, &mut nub)?;
     let _ = println!(rt; "ranked lines, where the second consumer ranks higher:");
@@ -141,6 +165,6 @@ fn main(rt: HostRuntime) -> Result<(), Unfinished> {
     let _ = println!(rt; "strangers:");
     match strangers(&rt) {
         Ok(()) => Ok(()),
-        Err(stray) => Err(Unfinished::Stray(stray)),
+        Err(stray) => Err(Ended::from(Unfinished::Stray(stray))),
     }
 }

@@ -2,7 +2,7 @@
 --   steps k           the actions of a call of kind k, in order, with the choices at each
 --   tells k           the caller of a call of kind k is told what its actions gave
 --   ConditionsBind   all of it
-use Rattle.std.specs.Prelude.{◌≡◌, ℕ, suc, Bool, true, false, ◌&&◌, List, [], ◌∷◌, length, Some as some, None as none, Option, ◌≢◌, slice_index_or}
+use Rattle.std.specs.Prelude.{◌≡◌, ℕ, suc, Bool, true, false, ◌&&◌, List, [], ◌∷◌, length, Some as some, None as none, ◌≢◌, slice_index_or}
 use Rattle.stages.specs.Names.{CallKind, action_no, num}
 use Rattle.stages.specs.Names.CallKind.{NoCall, Acquire, Release, Wait, Signal, Broadcast, SemP, SemV, Alert, TestAlert, AlertP, AlertWait}
 use Rattle.stages.specs.Calls.{Request, cond_of, elem}

@@ -1,8 +1,8 @@
 -- A list written to places, one after the other. Assumes nothing.
-use Rattle.std.proofs.Common.{◌≡◌, ℕ, ◌+◌, ◌<◌, ◌≤◌, min, true, false, leb, ◌⊎◌, List, [], ◌∷◌, ◌++◌, length, get_or, take, drop, set, sym, refl, ap, ◌∙◌, inl, inr, ⊎_elim, arith}
+use Rattle.std.proofs.Common.{◌≡◌, ℕ, ◌+◌, ◌<◌, ◌≤◌, min, true, false, leb, ◌⊎◌, List, [], ◌∷◌, ◌++◌, length, take, drop, set, sym, ap, ◌∙◌, inl, inr, ⊎_elim, arith}
 use native.Mathlib.Nat.{min-le_left, min_comm, min-eq_left}
 use Rattle.std.proofs.lemmas.Bool.{cases_Bool, leb-true, leb-false}
-use Rattle.std.proofs.lemmas.List.{length-set, take_all, drop_all, take_more, take_more_set, drop-set-lt, drop-drop, take-append-drop}
+use Rattle.std.proofs.lemmas.List.{length-set, take_all, drop_all, take_more_set, drop-set-lt, drop-drop, take-append-drop}
 use Rattle.embed.specs.Play.{laid}
 
 pub record Least (n a b : ℕ) : Type 0 where

@@ -1,5 +1,6 @@
 //! Runs each example script, and says whether it wrote what is expected of it.
 #![tactic(auto)]
+
 use script::run::run_script;
 use std::{fs, io};
 

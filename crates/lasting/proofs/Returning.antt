@@ -1,18 +1,14 @@
 -- A ticket comes back unchanged while its call goes on, and the plain answer to a submission.
-use Rattle.std.proofs.Common.{◌≡◌, ℕ, false, Some, None, Ok, Err, Option, Result, refl, ap, ◌∙◌, true≢false, arith}
+use Rattle.std.proofs.Common.{◌≡◌, false, Some, Ok, Option, refl, ap, ◌∙◌, true≢false}
 use Rattle.lines.specs.Kinds.{Kind}
 use Rattle.stages.specs.declared.action.Status.{Status}
 use Rattle.stages.specs.declared.action.Status.TheVariants as status
 use Rattle.nub.specs.declared.Report.{Report}
-use Rattle.nub.specs.declared.Decline.{Decline}
 use Rattle.nub.specs.declared.Answer.{Answer}
-use Rattle.nub.specs.Answers.{of_submission}
-use Rattle.nub.specs.Turn.{answer_in}
 use Rattle.tickets.specs.declared.refusal.Refusal.{Refusal}
 use Rattle.tickets.specs.declared.ticket.Ticket.{Ticket}
 use Rattle.tickets.specs.declared.ticket.Turned.{Turned}
 use Rattle.tickets.specs.declared.ticket.Turned.TheVariants as gave
-use Rattle.tickets.specs.Submissions.{result_of}
 use Rattle.tickets.specs.Tickets.{after, answered, unless}
 use Rattle.lasting.specs.Lasting.{is_finished, ComesBack}
 

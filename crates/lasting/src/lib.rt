@@ -1,5 +1,6 @@
 //! How long a ticket lasts: from the submission that is granted to the turn that finishes its call.
 #![tactic(auto)]
+
 ghost use Rattle.lasting.specs.Lasting.{BuiltRecorded, StaysRecorded, GrantedAccepted, AcceptedLasts, ComesBack};
 
 use lines::set::LineSet;

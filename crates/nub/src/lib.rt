@@ -1,5 +1,6 @@
 //! The nub over any kind of waiting lines: build, submission and turn.
 #![tactic(auto)]
+
 mod build;
 mod calls;
 mod numbers;

@@ -1,5 +1,6 @@
 //! Reads a script from standard input, whole, and writes its answers at once.
 #![tactic(auto)]
+
 use script::run::run_script;
 use std::io;
 use std::io::{Read, Write};

@@ -1,5 +1,6 @@
 //! Replays one list of events on nubs over both kinds of lines, and on one whose sizes the check declines.
 #![tactic(auto)]
+
 use lines::first_come::FirstCome;
 use lines::ranked::Ranked;
 use nub::{Answer, Event, Sizes};

@@ -1,5 +1,5 @@
 -- Lines of any kind stay sound, by the laws alone; so a run conforms over any kind that keeps them.
-use Rattle.std.proofs.Common.{◌≡◌, ℕ, zero, suc, ◌+◌, ◌-◌, ◌<◌, ◌≤◌, Bool, true, false, cond, not, ◌||◌, eqb, ltb, ◌⊎◌, List, [], ◌∷◌, ◌++◌, length, Some as some, None as none, Ok, Err, Option, Result, sym, refl, ap, ◌∙◌, subst, inl, inr, append_assoc, append-nil, arith}
+use Rattle.std.proofs.Common.{◌≡◌, ℕ, zero, suc, ◌<◌, ◌≤◌, Bool, true, false, cond, not, ◌||◌, eqb, ltb, ◌⊎◌, List, [], ◌∷◌, ◌++◌, length, Some as some, None as none, Ok, Err, Option, Result, sym, refl, ap, ◌∙◌, subst, inl, inr, append_assoc, append-nil, arith}
 use Rattle.std.proofs.lemmas.Bool.{ltb-true}
 use Rattle.lines.specs.Lines.{has, put, minus, Lines, Sound as LineSound, lines, stands, distinct, after as after_in, without as without1}
 use Rattle.lines.specs.Kinds.{Kind as LineKind, Laws}
@@ -8,7 +8,6 @@ use Rattle.stages.specs.declared.step.Step.{Step}
 use Rattle.stages.specs.declared.step.LineEffect.{LineEffect}
 use Rattle.stages.specs.declared.step.LineEffect.TheVariants.{Keep as keep_line, JoinGate as join_gate, LeaveGate as leave_gate, JoinCondition as join_cond, LeaveCondition as leave_cond, WakeGate as wake_gate, SignalOne as signal_one, SignalAll as signal_all}
 use Rattle.nub.specs.declared.Core.{Core}
-use Rattle.nub.specs.Model.{taken, answer}
 use Rattle.nub.specs.Work.{thread_at, worked_in}
 use Rattle.nub.specs.Turn.{row_done, sight_of, refused, steps, moves}
 use Rattle.nub.specs.Places.{line_in}

@@ -1,5 +1,5 @@
 -- What a row works on exists, in a nub whose calls have their objects.
-use Rattle.std.proofs.Common.{◌≡◌, ℕ, ◌-◌, ◌<◌, ◌≤◌, Bool, true, false, cond, not, ◌&&◌, ◌||◌, eqb, ltb, sym, refl, arith}
+use Rattle.std.proofs.Common.{◌≡◌, ℕ, ◌<◌, ◌≤◌, Bool, true, false, cond, not, ◌&&◌, ◌||◌, eqb, ltb, sym, refl, arith}
 use Rattle.std.proofs.lemmas.Bool.{lt-ltb, ltb-true}
 use Rattle.stages.specs.Calls.{Object, gate_of, cond_of, Request}
 use Rattle.stages.specs.Names.{call_no, is_wait, is_sem, CallKind, counted, has_gate}

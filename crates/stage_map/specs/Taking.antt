@@ -1,6 +1,6 @@
 -- Which records can be taken from a line, and what becomes of them.
 --   taken_from   the record once it is taken, by the mark of its stage; none where it stands in no line or holds the spin bit
-use Rattle.std.specs.Prelude.{Bool, true, false, cond, Some, None, Option}
+use Rattle.std.specs.Prelude.{cond, Some, None, Option}
 use Rattle.stages.specs.Marks.{marks}
 use Rattle.stages.specs.declared.marks.Stands.{Stands}
 use Rattle.stages.specs.declared.marks.Stands.TheVariants.{Nowhere, AtGate, AtCondition}

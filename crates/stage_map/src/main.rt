@@ -1,5 +1,6 @@
 //! Prints the stages as the code has them: a table, pictures of the paths that they make, and a wait's two ways out.
 #![tactic(auto)]
+
 mod arrows;
 mod calls;
 mod canvas;

@@ -1,8 +1,8 @@
-use Rattle.std.proofs.Common.{◌≡◌, length, sym, refl, ap, ◌∙◌, arith}
+use Rattle.std.proofs.Common.{◌≡◌, length, sym, ap, ◌∙◌, arith}
 use Rattle.embed.specs.declared.numbers.Entry.{Entry}
 use Rattle.embed.specs.Numbers.{in_numbers}
-use Rattle.embed.proofs.Laying.{Least, least, full_at}
-use Rattle.embed.proofs.Playing.{At, at_step, at_end}
+use Rattle.embed.proofs.Laying.{least, full_at}
+use Rattle.embed.proofs.Playing.{at_step, at_end}
 use Rattle.embed.proofs.play.perform.Goals as goal
 
 -- an entry that stands for none

@@ -1,4 +1,4 @@
-use Rattle.std.proofs.Common.{◌≡◌, ℕ, ◌≤◌, length, ap, ◌∙◌, arith}
+use Rattle.std.proofs.Common.{ℕ, ◌≤◌, length, ap, ◌∙◌, arith}
 use Rattle.nub.specs.declared.Sizes.{Sizes}
 use Rattle.nub.specs.Build.{sizes_verdict, built_sizes, built_core}
 use Rattle.runs.proofs.Kept.{runs_over}

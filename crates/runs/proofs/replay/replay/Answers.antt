@@ -10,7 +10,6 @@ use Rattle.nub.specs.Turn.{moves}
 use Rattle.runs.specs.Replay.{Conformed, ran}
 use Rattle.runs.proofs.Along.{Along, along_none, along_end, along_next, ran_next, built_sized}
 use Rattle.runs.proofs.Kept.{runs_over}
-use Rattle.runs.proofs.replay.replay.Given as given
 use Rattle.runs.proofs.replay.replay.Goals as goal
 
 pub loop-event-init : goal.loop-event-init

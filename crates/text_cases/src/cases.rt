@@ -123,7 +123,7 @@ mod tests {
         assert_eq!(rt; out.len(), 1_954_974);
         let more = vec![in heap; b'#'; 65_537]?;
         let out = written(heap, more.as_slice())?;
-        assert!(rt; out.as_slice() == b"line 0 script 34 column 1\n");
+        assert!(rt; out.as_slice() == b"line 0 script 34 column 1\n".as_slice());
         Ok(())
     }
 }

@@ -6,7 +6,7 @@ use Rattle.std.specs.Prelude.{◌≡◌, ℕ, ◌<◌, ◌≤◌, true, ◌⊎�
 use Rattle.lines.specs.Lines.{has}
 use Rattle.lines.specs.Ranking.{best}
 
--- thread u has the rank `get_or ranks u 0`
+-- thread u has the rank `slice_index ranks u`
 pub record Highest (ranks ts : List ℕ) (t : ℕ) : Type 0 where
   pub member : has t ts ≡ true
   pub above : (u : ℕ) → has u ts ≡ true → (slice_index ranks u < slice_index ranks t) ⊎ ((slice_index ranks u ≡ slice_index ranks t) × (t ≤ u))

@@ -1,6 +1,6 @@
 //! Why an operation on a set of lines is declined.
 ghost use Rattle.std.specs.Prelude.{◌≡◌};
-ghost use Rattle.lines.specs.Lines.{number as «number_of_lem»};
+ghost use Rattle.lines.specs.Lines.{number as number_of};
 
 /// The four refusals. Where several apply, the one with the lowest number is answered.
 #[derive(Clone, Copy, PartialEq, Eq, Debug)]
@@ -18,7 +18,7 @@ pub enum Decline {
 impl Decline {
     /// The number that callers outside know the refusal by.
     pub fn number(self) -> u8
-        ensures { result ≡ «number_of_lem» self }
+        ensures { result ≡ number_of self }
     {
         match self {
             Decline::NoSuchLine => 21,

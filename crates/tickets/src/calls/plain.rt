@@ -1,7 +1,6 @@
 //! The calls that give nothing but their report when they have finished.
 ghost use Rattle.stages.specs.declared.call.Call.TheVariants as call;
-ghost use Rattle.std.specs.Prelude.{None};
-ghost use Rattle.std.proofs.Common.{rules};
+ghost use Rattle.std.specs.Prelude.{None, refl};
 
 use crate::calls::Ticketed;
 use crate::calls::sealed::Sealed;
@@ -24,7 +23,7 @@ impl Ticketed for Release {
 
     ghost held = { λ _. None };
 
-    ghost ends = { Prim.search rules };
+    ghost ends = { λ _ _. refl };
 
     fn call(self) -> Call {
         Call::Release(self.mutex)
@@ -50,7 +49,7 @@ impl Ticketed for Signal {
 
     ghost held = { λ _. None };
 
-    ghost ends = { Prim.search rules };
+    ghost ends = { λ _ _. refl };
 
     fn call(self) -> Call {
         Call::Signal(self.condition)
@@ -76,7 +75,7 @@ impl Ticketed for Broadcast {
 
     ghost held = { λ _. None };
 
-    ghost ends = { Prim.search rules };
+    ghost ends = { λ _ _. refl };
 
     fn call(self) -> Call {
         Call::Broadcast(self.condition)
@@ -102,7 +101,7 @@ impl Ticketed for P {
 
     ghost held = { λ _. None };
 
-    ghost ends = { Prim.search rules };
+    ghost ends = { λ _ _. refl };
 
     fn call(self) -> Call {
         Call::P(self.semaphore)
@@ -128,7 +127,7 @@ impl Ticketed for V {
 
     ghost held = { λ _. None };
 
-    ghost ends = { Prim.search rules };
+    ghost ends = { λ _ _. refl };
 
     fn call(self) -> Call {
         Call::V(self.semaphore)
@@ -154,7 +153,7 @@ impl Ticketed for Alert {
 
     ghost held = { λ _. None };
 
-    ghost ends = { Prim.search rules };
+    ghost ends = { λ _ _. refl };
 
     fn call(self) -> Call {
         Call::Alert(self.thread)
@@ -178,7 +177,7 @@ impl Ticketed for TestAlert {
 
     ghost held = { λ _. None };
 
-    ghost ends = { Prim.search rules };
+    ghost ends = { λ _ _. refl };
 
     fn call(self) -> Call {
         Call::TestAlert
@@ -204,7 +203,7 @@ impl Ticketed for AlertP {
 
     ghost held = { λ _. None };
 
-    ghost ends = { Prim.search rules };
+    ghost ends = { λ _ _. refl };
 
     fn call(self) -> Call {
         Call::AlertP(self.semaphore)

@@ -1,6 +1,6 @@
 /* The nub for programs in C and C++: whole runs and whole scripts, over plain numbers and bytes.
  *
- * Link target/staticlib/libembed.a (made by `rt staticlib embed`) and the toolchain's librattle_c.a, in this order.
+ * Link crates/embed/out/libembed.a (made by `rt lib` in crates/embed) and the toolchain's liblibc_c.a, in this order.
  * docs/EMBEDDING.md says what the caller owes; docs/RULES.md has the calls, the reports and the numbers of the declines.
  */
 #ifndef LISHABON_H

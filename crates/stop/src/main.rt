@@ -56,19 +56,11 @@ pub enum Unfinished {
     Stray(Stray),
 }
 
-/// What the program ends with where somebody has not come to its end: tickets and holds cannot be let go, so what is left in
+/// What the program ends with where somebody has not come to its end: tickets and holds cannot be dropped, so what is left in
 /// hand is kept until the process is gone.
 #[derive(Drop)]
 pub struct Ended {
     _left: ManuallyDrop<Unfinished>,
-}
-
-impl From<Unfinished> for Ended {
-    fn from(left: Unfinished) -> Ended {
-        Ended {
-            _left: unsafe { ManuallyDrop::new_unchecked(left) },
-        }
-    }
 }
 
 impl fmt::Debug for Ended {
@@ -147,7 +139,8 @@ fn play<L: LineSet>(rt: &HostRuntime, nub: &mut Nub<L>) -> Result<(), Unfinished
     }
 }
 
-fn main(rt: HostRuntime) -> Result<(), Ended> {
+// Both plays, and the strangers.
+fn show(rt: &HostRuntime) -> Result<(), Unfinished> {
     let sizes = Sizes {
         threads: 4,
         mutexes: 1,
@@ -156,15 +149,25 @@ fn main(rt: HostRuntime) -> Result<(), Ended> {
     };
     let _ = println!(rt; "first-come lines:");
     let mut nub = Nub::<FirstCome>::make(sizes, 0, ());
-    play(&rt, &mut nub)?;
+    play(rt, &mut nub)?;
     let _ = println!(rt; "ranked lines, where the second consumer ranks higher:");
     let mut ranks = [0; 32];
     ranks[CONSUMERS[1]] = 7;
     let mut nub = Nub::<Ranked>::make(sizes, 0, ranks);
-    play(&rt, &mut nub)?;
+    play(rt, &mut nub)?;
     let _ = println!(rt; "strangers:");
-    match strangers(&rt) {
+    match strangers(rt) {
         Ok(()) => Ok(()),
-        Err(stray) => Err(Ended::from(Unfinished::Stray(stray))),
+        Err(stray) => Err(Unfinished::Stray(stray)),
+    }
+}
+
+fn main(rt: HostRuntime) -> Result<(), Ended> {
+    match show(&rt) {
+        Ok(()) => Ok(()),
+        Err(left) => Err(Ended {
+            // The process ends with this error, and nobody sees the tickets and holds again.
+            _left: unsafe { ManuallyDrop::new_unchecked(left) },
+        }),
     }
 }

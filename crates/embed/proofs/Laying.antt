@@ -21,9 +21,6 @@ least n a b e = record {
       (cases_Bool (leb a b));
 }
 
-pub full_at : (i n a b : ℕ) → n ≡ i → (a ≤ n) ⊎ (b ≤ n) → (a ≤ i) ⊎ (b ≤ i)
-full_at i n a b e h = ⊎_elim (λ (p : a ≤ n). inl (omega arith)) (λ (p : b ≤ n). inr (omega arith)) h
-
 module _ {X : Type 0} where
   -- the first i of ys are as, and the others are those of zs
   abbrev pub Lay : ℕ → List X → List X → List X → Type 0

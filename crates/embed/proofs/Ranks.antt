@@ -1,19 +1,18 @@
--- The ranks of 32 threads, one after the other. Assumes nothing.
-use Rattle.std.proofs.Common.{◌≡◌, ℕ, zero, suc, ◌+◌, List, [], ◌∷◌, ◌++◌, map, get_or, sym, refl, ap, ◌∙◌, add-zero, add-suc, suc-add, add-one}
-use Rattle.embed.specs.Play.{numbers_from}
+-- The ranks of threads, one after the other. Assumes nothing.
+use Rattle.std.proofs.Common.{◌≡◌, ℕ, zero, suc, List, [], ◌∷◌, map, replicate, slice_index, refl, ap, ◌∙◌, sym}
+use Rattle.embed.specs.Play.{numbers_from, laid}
 
-numbers_push : (m k : ℕ) → numbers_from m (suc k) ≡ numbers_from m k ++ (m + k) ∷ []
-numbers_push m zero = ap (λ (x : ℕ). x ∷ []) (sym (add-zero m))
-numbers_push m (suc k) = ap (λ (xs : List ℕ). m ∷ xs) (numbers_push (suc m) k ∙ ap (λ (x : ℕ). numbers_from (suc m) k ++ x ∷ []) (suc-add m k ∙ sym (add-suc m k)))
+map_shift : (f : ℕ → ℕ) (m k : ℕ) → map f (numbers_from (suc m) k) ≡ map (λ n. f (suc n)) (numbers_from m k)
+map_shift f m zero = refl
+map_shift f m (suc k) = ap (λ (xs : List ℕ). f (suc m) ∷ xs) (map_shift f (suc m) k)
 
-map_push : (f : ℕ → ℕ) (xs : List ℕ) (x : ℕ) → map f (xs ++ x ∷ []) ≡ map f xs ++ f x ∷ []
-map_push f [] x = refl
-map_push f (y ∷ ys) x = ap (λ (zs : List ℕ). f y ∷ zs) (map_push f ys x)
+laid_none : (k : ℕ) → laid {X = ℕ} [] (replicate k 0) ≡ replicate k 0
+laid_none zero = refl
+laid_none (suc k) = refl
 
--- the ranks of the first n threads, and one more
-abbrev pub ranks_to : List ℕ → ℕ → List ℕ
-ranks_to rs n = map (λ k. get_or rs k 0) (numbers_from 0 n)
-
-pub ranks_more : (rs : List ℕ) (n : ℕ) → ranks_to rs (n + 1) ≡ ranks_to rs n ++ get_or rs n 0 ∷ []
-ranks_more rs n =
-    ap (ranks_to rs) (add-one n) ∙ ap (map (λ k. get_or rs k 0)) (numbers_push 0 n ∙ ap (λ (x : ℕ). numbers_from 0 n ++ x ∷ []) (native.Mathlib.Nat.zero-add n)) ∙ map_push (λ k. get_or rs k 0) (numbers_from 0 n) n
+-- ranks written to k places of 0 are the ranks of the first k threads
+pub ranks_laid : (rs : List ℕ) (k : ℕ) → laid rs (replicate k 0) ≡ map (λ n. slice_index rs n) (numbers_from 0 k)
+ranks_laid [] zero = refl
+ranks_laid (r ∷ rs) zero = refl
+ranks_laid [] (suc k) = ap (λ (xs : List ℕ). 0 ∷ xs) (sym (laid_none k) ∙ ranks_laid [] k ∙ sym (map_shift (λ n. slice_index [] n) 0 k))
+ranks_laid (r ∷ rs) (suc k) = ap (λ (xs : List ℕ). r ∷ xs) (ranks_laid rs k ∙ sym (map_shift (λ n. slice_index (r ∷ rs) n) 0 k))

@@ -3,8 +3,8 @@
 --   events_for n es     the submissions and turns of the first n entries
 --   played K k f es bs the answers that the tables give along the entries es, as many as bs has places, written to bs
 --   granted v x y      x where a build's check grants, else y
---   Plays K f a es zs r ys   r and ys are what a run on lines of the kind K, which are f when new, answers and leaves: a asks
---                      for the nub, es are the entries, and zs were the places for their answers
+--   Plays K f z n es zs r ys   r and ys are what a run on lines of the kind K, which are f when new, answers and leaves: z are the
+--                      sizes and n the start count asked for, es the entries, and zs were the places for their answers
 --   ranks_of rs         a rank for each of 32 threads; 0 for one that rs lacks
 use Rattle.std.specs.Prelude.{◌≡◌, ℕ, zero, suc, List, [], ◌∷◌, ◌++◌, map, length, take, drop, Ok, Err, Result, slice_index}
 use Rattle.lines.specs.Kinds.{Kind}
@@ -13,10 +13,10 @@ use Rattle.nub.specs.declared.Decline.{Decline}
 use Rattle.nub.specs.declared.Event.{Event}
 use Rattle.nub.specs.Build.{sizes_verdict, built_sizes, built_core}
 use Rattle.runs.specs.Replay.{ran, RunsRight}
-use Rattle.embed.specs.declared.numbers.Asked.{Asked}
+use Rattle.nub.specs.declared.Sizes.{Sizes}
 use Rattle.embed.specs.declared.numbers.Entry.{Entry}
 use Rattle.embed.specs.declared.numbers.Answer.{Answer}
-use Rattle.embed.specs.Numbers.{asked_of, event_of, in_numbers, row_of}
+use Rattle.embed.specs.Numbers.{event_of, in_numbers, row_of}
 
 abbrev pub laid : {X : Type 0} → List X → List X → List X
 laid xs ys = take (length ys) xs ++ drop (length xs) ys
@@ -31,17 +31,17 @@ abbrev pub granted : {X : Type 0} → Result (Unit {0}) Decline → X → X → 
 granted (Ok u) x y = x
 granted (Err d) x y = y
 
--- a new nub but for its lines, as a asks for it
-abbrev pub new_core : Kind → Asked → Core
-new_core K a = built_core (built_sizes K.serves (asked_of a)) a.start
+-- a new nub but for its lines, of these sizes and this start count
+abbrev pub new_core : Kind → Sizes → ℕ → Core
+new_core K z n = built_core (built_sizes K.serves z) n
 
-pub record Plays (K : Kind) (f : K.State) (a : Asked) (es : List Entry) (zs : List Answer) (r : ℕ) (ys : List Answer) : Type 0 where
+pub record Plays (K : Kind) (f : K.State) (z : Sizes) (n : ℕ) (es : List Entry) (zs : List Answer) (r : ℕ) (ys : List Answer) : Type 0 where
   -- the number that the build's check answers by
-  pub row : r ≡ row_of (sizes_verdict K.serves (asked_of a))
+  pub row : r ≡ row_of (sizes_verdict K.serves z)
   -- the answers are those of the tables; where the build is declined none is written
-  pub answers : ys ≡ granted (sizes_verdict K.serves (asked_of a)) (played K (new_core K a) f es zs) zs
+  pub answers : ys ≡ granted (sizes_verdict K.serves z) (played K (new_core K z n) f es zs) zs
   -- they are answers along a right run
-  pub run : RunsRight K (new_core K a) f (events_for (length zs) es)
+  pub run : RunsRight K (new_core K z n) f (events_for (length zs) es)
 
 -- the k numbers from n on
 abbrev pub numbers_from : ℕ → ℕ → List ℕ

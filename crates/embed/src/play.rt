@@ -1,29 +1,31 @@
 //! Whole runs: a nub is built, performs a list of entries, and is let go.
-ghost use Rattle.std.specs.Prelude.{◌≡◌, [], slice_index};
+ghost use Rattle.std.specs.Prelude.{◌≡◌, []};
 ghost use Rattle.lines.specs.Choosing.{first_come, ranked};
-ghost use Rattle.nub.specs.Build.{sizes_verdict, built_sizes, built_core};
 ghost use Rattle.nub.specs.View.{core_of, lines_of};
-ghost use Rattle.embed.specs.Numbers.{row_of};
-ghost use Rattle.embed.specs.Play.{played, granted, Plays, ranks_of};
+ghost use Rattle.embed.specs.Numbers.{asked_of};
+ghost use Rattle.embed.specs.Play.{played, Plays, ranks_of};
 
 use crate::numbers::*;
+use crate::whole_script::lay;
 use lines::first_come::FirstCome;
 use lines::ranked::Ranked;
 use lines::set::LineSet;
-use nub::{Nub, Sizes};
+use nub::{Event, Nub, Sizes};
 
 // Performs the entries on a nub, as many as there are places for their answers.
 fn perform<L: LineSet>(nub: &mut Nub<L>, entries: &[Entry], answers: &mut [Answer])
     ensures { answers.new ≡ played L.LineSet.kind (core_of nub.old) (L.LineSet.state (lines_of nub.old)) entries.now answers.old }
 {
     let n = entries.len().min(answers.len());
-    for i in 0..n {
-        answers[i] = in_numbers(nub.enter(event_of(entries[i])));
+    // By index: a proof is told nothing of what is written through `iter_mut` under `zip`.
+    for (i, entry) in entries[..n].iter().enumerate() {
+        answers[i] = nub.enter(Event::from(*entry)).into();
     }
 }
 
-// Builds a nub and performs the entries on it, or gives the number of the decline.
-fn build_and_perform<L: LineSet + Drop>(
+// Builds a nub and performs the entries on it, or gives the number of the decline, as C gets it; with the run theorem about its
+// own run.
+fn play<L: LineSet + Drop>(
     sizes: Sizes,
     start: u32,
     maker: L::Maker,
@@ -32,8 +34,7 @@ fn build_and_perform<L: LineSet + Drop>(
 ) -> u32
 where
     L::Maker: Drop,
-    ensures row { result ≡ row_of (sizes_verdict L.LineSet.kind.serves sizes) }
-    ensures answers { answers.new ≡ granted (sizes_verdict L.LineSet.kind.serves sizes) (played L.LineSet.kind (built_core (built_sizes L.LineSet.kind.serves sizes) start) (L.LineSet.fresh maker) entries.now answers.old) answers.old }
+    ensures { Plays L.LineSet.kind (L.LineSet.fresh maker) sizes start entries.now answers.old result answers.new }
 {
     match sizes.check::<L>() {
         Ok(()) => {
@@ -41,29 +42,8 @@ where
             perform(&mut nub, entries, answers);
             0
         }
-        Err(decline) => u32::from(decline.number()),
+        Err(decline) => u8::from(decline).into(),
     }
-}
-
-// The same, with the run theorem about its own run.
-fn play<L: LineSet + Drop>(
-    asked: Asked,
-    maker: L::Maker,
-    entries: &[Entry],
-    answers: &mut [Answer],
-) -> u32
-where
-    L::Maker: Drop,
-    ensures { Plays L.LineSet.kind (L.LineSet.fresh maker) asked entries.now answers.old result answers.new }
-{
-    build_and_perform::<L>(asked_of(asked), start_of(asked), maker, entries, answers)
-}
-
-// The rank at place n, and 0 where there is none.
-fn rank_at(ranks: &[u8], n: usize) -> u8
-    ensures { result ≡ slice_index ranks.now n }
-{
-    if n < ranks.len() { ranks[n] } else { 0 }
 }
 
 // A rank for each thread that ranked lines serve; 0 where none is given.
@@ -71,17 +51,8 @@ fn ranks_of(ranks: &[u8]) -> [u8; 32]
     ensures { result ≡ ranks_of ranks.now }
 {
     let mut all = [0; 32];
-    for n in 0..32 {
-        all[n] = rank_at(ranks, n);
-    }
+    lay(ranks, &mut all);
     all
-}
-
-// On ranked lines, with a rank for each thread.
-fn play_by_ranks(asked: Asked, ranks: &[u8], entries: &[Entry], answers: &mut [Answer]) -> u32
-    ensures { Plays ranked (ranks_of ranks.now, []) asked entries.now answers.old result answers.new }
-{
-    play::<Ranked>(asked, ranks_of(ranks), entries, answers)
 }
 
 /// Builds a nub with first-come lines and performs the entries in order, as many as there are places for their answers.
@@ -92,12 +63,12 @@ pub extern "C" fn lishabon_play_first_come(
     entries: &[Entry],
     answers: &mut [Answer],
 ) -> u32
-    ensures { Plays first_come (tt, []) asked.now entries.now answers.old result answers.new }
+    ensures { Plays first_come (tt, []) (asked_of asked.now) asked.now.start entries.now answers.old result answers.new }
 {
-    play::<FirstCome>(*asked, (), entries, answers)
+    play::<FirstCome>(Sizes::from(*asked), asked.start, (), entries, answers)
 }
 
-/// The same with ranked lines: thread n has the rank at place n of `ranks`, and 0 where there is no such place.
+/// The same with ranked lines, by a name of its own for C: thread n has the rank at place n of `ranks`, and 0 where there is no such place.
 #[unsafe(no_mangle)]
 pub extern "C" fn lishabon_play_ranked(
     asked: &Asked,
@@ -105,7 +76,13 @@ pub extern "C" fn lishabon_play_ranked(
     entries: &[Entry],
     answers: &mut [Answer],
 ) -> u32
-    ensures { Plays ranked (ranks_of ranks.now, []) asked.now entries.now answers.old result answers.new }
+    ensures { Plays ranked (ranks_of ranks.now, []) (asked_of asked.now) asked.now.start entries.now answers.old result answers.new }
 {
-    play_by_ranks(*asked, ranks, entries, answers)
+    play::<Ranked>(
+        Sizes::from(*asked),
+        asked.start,
+        ranks_of(ranks),
+        entries,
+        answers,
+    )
 }

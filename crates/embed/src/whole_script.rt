@@ -6,17 +6,16 @@ ghost use Rattle.embed.specs.Into.{RanInto};
 use script::run::run_script;
 use std::alloc::Global;
 
-// Writes `text` from the first place on, as far as there are places.
-fn lay(text: &[u8], output: &mut [u8])
+/// Writes `text` from the first place on, as far as there are places.
+pub(crate) fn lay(text: &[u8], output: &mut [u8])
     ensures { output.new ≡ laid text.now output.old }
 {
     let n = text.len().min(output.len());
-    for i in 0..n {
-        output[i] = text[i];
-    }
+    output[..n].copy_from_slice(&text[..n]);
 }
 
-// Runs a script into `output`; none where there is no memory.
+// Runs a script into `output`, and gives the length of what is written, or the largest number, which C knows want of memory by.
+// Apart from the exported function, so that a proof file is of this one.
 fn run_into(heap: Global, input: &[u8], output: &mut [u8]) -> usize
     ensures { RanInto input.now output.old result output.new }
 {

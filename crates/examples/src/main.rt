@@ -28,19 +28,20 @@ fn as_expected(rt: &HostRuntime, name: &str) -> io::Result<bool> {
     let heap = rt.alloc();
     let script = format!(in heap; "{name}.script")?;
     let expected = format!(in heap; "{name}.expected")?;
-    let input = fs::read(rt, script.as_str())?;
-    let wanted = fs::read(rt, expected.as_str())?;
-    let written = run_script(heap, input.as_slice())?;
-    Ok(written.as_slice() == wanted.as_slice())
+    let input = fs::read(rt, &script)?;
+    let wanted = fs::read(rt, &expected)?;
+    let written = run_script(heap, &input)?;
+    Ok(written == wanted)
 }
 
 fn main(rt: HostRuntime) -> io::Result<()> {
     for name in NAMES {
-        if as_expected(&rt, name)? {
-            println!(rt; "{name}: as expected")?;
+        let verdict = if as_expected(&rt, name)? {
+            "as expected"
         } else {
-            println!(rt; "{name}: differs")?;
-        }
+            "differs"
+        };
+        println!(rt; "{name}: {verdict}")?;
     }
     Ok(())
 }

@@ -1,22 +1,21 @@
 -- What a turn does besides its own thread's record leaves each thread its call, and leads none to Idle.
-use Rattle.std.proofs.Common.{◌≡◌, ℕ, zero, suc, Bool, true, false, cond, List, [], ◌∷◌, length, get_or, set, Some as some, None as none, Option, refl, ap, ◌∙◌}
+use Rattle.std.proofs.Common.{◌≡◌, ℕ, zero, suc, Bool, true, false, cond, List, [], ◌∷◌, length, get_or, set, Some as some, Option, refl, ap, ◌∙◌, arith}
 use Rattle.std.proofs.lemmas.List.{length-set}
 use Rattle.lines.specs.Lines.{has}
 use Rattle.lines.specs.Kinds.{Kind}
-use Rattle.stages.specs.Names.{CallKind, is_idle, is_alert_wait}
+use Rattle.stages.specs.Names.{CallKind, is_idle}
 use Rattle.stages.specs.Calls.{kind_of, condition_of}
 use Rattle.stages.specs.declared.call.Call.{Call}
-use Rattle.stages.specs.declared.stage.Stage.TheVariants.{Choose, Try}
 use Rattle.stages.specs.declared.step.Step.{Step}
 use Rattle.stages.specs.declared.step.LineEffect.{LineEffect}
-use Rattle.stages.specs.declared.step.LineEffect.TheVariants.{Keep as keep_line, JoinGate as join_gate, LeaveGate as leave_gate, JoinCondition as join_cond, LeaveCondition as leave_cond, WakeGate as wake_gate, SignalOne as signal_one, SignalAll as signal_all}
+use Rattle.stages.specs.declared.step.LineEffect.TheVariants.{WakeGate as wake_gate, SignalOne as signal_one, SignalAll as signal_all}
 use Rattle.stages.specs.declared.step.FlagEffect.{FlagEffect}
-use Rattle.stages.specs.declared.step.FlagEffect.TheVariants.{Keep as keep_flag, ClearOwn as clear_own, SetNamed as set_named}
+use Rattle.stages.specs.declared.step.FlagEffect.TheVariants.{SetNamed as set_named}
 use Rattle.thread.specs.Turns.{idle_thread, flagged, woken_thread, woken_stage}
 use Rattle.thread.specs.declared.record.Thread.{Thread}
 use Rattle.nub.specs.declared.Core.{Core}
 use Rattle.nub.specs.Places.{alerted_of, line_in}
-use Rattle.nub.specs.Work.{thread_at, alert_named, applied, wake_from, freed_in, taken_in, performed}
+use Rattle.nub.specs.Work.{alert_named, applied, wake_from, freed_in, taken_in, performed}
 
 -- the same call, and not at Idle if not there before
 pub record Same (h h' : Thread) : Type 0 where
@@ -27,15 +26,15 @@ pub same_refl : (h : Thread) → Same h h
 same_refl h = record { call! = refl; busy! = λ b. b }
 
 -- a record put in the place of another
-pub set_same : (l : List Thread) (x t : ℕ) (g : Thread) → Same (get_or l x idle_thread) g → Same (get_or l t idle_thread) (get_or (set l x g) t idle_thread)
+pub set_same : (l : List Thread) (x t : ℕ) (g : Thread) → (t ≡ x → Same (get_or l x idle_thread) g) → Same (get_or l t idle_thread) (get_or (set l x g) t idle_thread)
 set_same [] x t g s = same_refl idle_thread
-set_same (h ∷ l) zero zero g s = s
+set_same (h ∷ l) zero zero g s = s refl
 set_same (h ∷ l) zero (suc t) g s = same_refl (get_or l t idle_thread)
 set_same (h ∷ l) (suc x) zero g s = same_refl h
-set_same (h ∷ l) (suc x) (suc t) g s = set_same l x t g s
+set_same (h ∷ l) (suc x) (suc t) g s = set_same l x t g (λ e. s (ap suc e))
 
 -- records, place by place
-record Alike (l l' : List Thread) : Type 0 where
+pub record Alike (l l' : List Thread) : Type 0 where
   pub long! : length l' ≡ length l
   pub same! : (t : ℕ) → Same (get_or l t idle_thread) (get_or l' t idle_thread)
 
@@ -43,25 +42,13 @@ alike_refl : (l : List Thread) → Alike l l
 alike_refl l = record { long! = refl; same! = λ t. same_refl (get_or l t idle_thread) }
 
 alert_alike : (e : FlagEffect) (x : Option ℕ) (l : List Thread) → Alike l (alert_named e x l)
-alert_alike keep_flag x l = alike_refl l
-alert_alike clear_own x l = alike_refl l
-alert_alike set_named none l = alike_refl l
 alert_alike set_named (some x) l =
-    record { long! = length-set l x (flagged (get_or l x idle_thread)); same! = λ t. set_same l x t (flagged (get_or l x idle_thread)) (record { call! = refl; busy! = λ b. b }) }
-
-try_or_choose : (b : Bool) → is_idle (cond b Choose Try) ≡ false
-try_or_choose true = refl
-try_or_choose false = refl
+    record { long! = length-set l x (flagged (get_or l x idle_thread)); same! = λ t. set_same l x t (flagged (get_or l x idle_thread)) (λ _. record { call! = refl; busy! = λ b. b }) }
+alert_alike e x l = alike_refl l
 
 woken_busy : (e : LineEffect) (k : CallKind) → is_idle (woken_stage e k) ≡ false
-woken_busy keep_line k = refl
-woken_busy join_gate k = refl
-woken_busy leave_gate k = refl
-woken_busy join_cond k = refl
-woken_busy leave_cond k = refl
 woken_busy wake_gate k = refl
-woken_busy signal_one k = try_or_choose (is_alert_wait k)
-woken_busy signal_all k = try_or_choose (is_alert_wait k)
+woken_busy e k = grind arith
 
 woken_same : (b : Bool) (e : LineEffect) (h : Thread) → Same h (cond b (woken_thread e h) h)
 woken_same true e h = record { call! = refl; busy! = λ _. woken_busy e (kind_of h.call) }
@@ -82,23 +69,13 @@ wake_alike e us l = record { long! = wake_long e us 0 l; same! = λ t. wake_same
 -- the nub with the same sizes and such records
 pub record Follows (k k' : Core) : Type 0 where
   pub sizes! : k'.sizes ≡ k.sizes
-  pub long! : length k'.threads ≡ length k.threads
-  pub same! : (t : ℕ) → Same (thread_at k t) (thread_at k' t)
-
-follows_refl : (k : Core) → Follows k k
-follows_refl k = record { sizes! = refl; long! = refl; same! = λ t. same_refl (thread_at k t) }
+  pub alike! : Alike k.threads k'.threads
 
 freed_follows : (e : LineEffect) (o : Option ℕ) (us : List ℕ) (k : Core) → Follows k (freed_in e o us k)
-freed_follows keep_line o us k = follows_refl k
-freed_follows join_gate o us k = follows_refl k
-freed_follows leave_gate o us k = follows_refl k
-freed_follows join_cond o us k = follows_refl k
-freed_follows leave_cond o us k = follows_refl k
-freed_follows wake_gate o us k = let a = wake_alike wake_gate us k.threads in record { sizes! = refl; long! = a.long!; same! = a.same! }
-freed_follows signal_one none us k = follows_refl k
-freed_follows signal_one (some c) us k = let a = wake_alike signal_one us k.threads in record { sizes! = refl; long! = a.long!; same! = a.same! }
-freed_follows signal_all none us k = follows_refl k
-freed_follows signal_all (some c) us k = let a = wake_alike signal_all us k.threads in record { sizes! = refl; long! = a.long!; same! = a.same! }
+freed_follows wake_gate o us k = record { sizes! = refl; alike! = wake_alike wake_gate us k.threads }
+freed_follows signal_one (some c) us k = record { sizes! = refl; alike! = wake_alike signal_one us k.threads }
+freed_follows signal_all (some c) us k = record { sizes! = refl; alike! = wake_alike signal_all us k.threads }
+freed_follows e o us k = record { sizes! = refl; alike! = alike_refl k.threads }
 
 pub performed_follows : (K : Kind) (s : Step) (t : ℕ) (c : Option Call) (k : Core) (f : K.State) → Follows k (performed K s t c k f).core
 performed_follows K s t c k f =
@@ -106,6 +83,8 @@ performed_follows K s t c k f =
     let b = freed_follows s.line (condition_of c) (taken_in K s.line (line_in s.line c) f) (applied s t c k) in
     record {
       sizes! = b.sizes!;
-      long! = b.long! ∙ a.long!;
-      same! = λ u. record { call! = (b.same! u).call! ∙ (a.same! u).call!; busy! = λ h. (b.same! u).busy! ((a.same! u).busy! h) };
+      alike! = record {
+        long! = b.alike!.long! ∙ a.long!;
+        same! = λ u. record { call! = (b.alike!.same! u).call! ∙ (a.same! u).call!; busy! = λ h. (b.alike!.same! u).busy! ((a.same! u).busy! h) };
+      };
     }

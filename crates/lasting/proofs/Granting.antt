@@ -1,14 +1,13 @@
 -- A granted submission's ticket is accepted, and nubs keep their records.
-use Rattle.std.proofs.Common.{◌≡◌, ℕ, ◌<◌, ◌≤◌, Bool, true, false, cond, ◌&&◌, ltb, leb, length, set, Some as some, None as none, Option, refl, ap, ◌∙◌, arith}
-use mathlib.Core.Bool.{false≢true}
-use Rattle.std.proofs.lemmas.Bool.{ltb-true, leb-true, eq-eqb}
+use Rattle.std.proofs.Common.{◌≡◌, ◌<◌, Bool, true, false, cond, ltb, length, set, Some as some, None as none, Option, refl, ap, ◌∙◌, arith}
+use Rattle.std.proofs.lemmas.Bool.{ltb-true}
 use Rattle.std.proofs.lemmas.List.{get_or-set_same, length-set, length-replicate}
 use Rattle.lines.specs.Kinds.{Kind}
-use Rattle.stages.specs.Names.{is_idle}
-use Rattle.stages.specs.Calls.{kind_of}
+use Rattle.stages.specs.Names.{call_no, is_idle}
+use Rattle.stages.specs.Calls.{request_of, kind_of}
 use Rattle.stages.specs.Table.{first}
 use Rattle.stages.specs.declared.call.Call.{Call}
-use Rattle.stages.specs.declared.call.Call.TheVariants.{Acquire, Release, Wait, Signal, Broadcast, P, V, Alert, TestAlert, AlertP, AlertWait}
+use Rattle.stages.specs.declared.call.Call.TheVariants.{TestAlert}
 use Rattle.stages.specs.declared.step.Step.{Step}
 use Rattle.thread.specs.Turns.{idle_thread, row_by, step_of, thread_after, started}
 use Rattle.thread.specs.declared.record.Thread.{Thread}
@@ -17,52 +16,30 @@ use Rattle.nub.specs.declared.Sizes.{Sizes}
 use Rattle.nub.specs.declared.Decline.{Decline}
 use Rattle.nub.specs.declared.Decline.TheVariants.{NoThread}
 use Rattle.nub.specs.declared.Event.TheVariants.{Submission as submission, Turn as turn}
-use Rattle.nub.specs.Build.{sizes_fit, least_sizes}
 use Rattle.nub.specs.Model.{by_verdict, code_kind}
 use Rattle.nub.specs.Work.{thread_at, with_threads, performed}
 use Rattle.nub.specs.Turn.{call_by, verdict_in, sight_of, row_done, refused, steps}
-use Rattle.tickets.specs.Submissions.{numbers_of, same_call}
 use Rattle.tickets.specs.declared.refusal.Refusal.TheVariants.{OtherCall}
-use Rattle.tickets.specs.Refusals.{refusal_for}
+use Rattle.tickets.specs.Refusals.{refusal_for, same_call}
 use Rattle.lasting.specs.Lasting.{Recorded, BuiltRecorded, StaysRecorded, GrantedAccepted}
 use Rattle.lasting.proofs.Follows.{performed_follows}
 use Rattle.lasting.proofs.Accepting.{by, ready}
 
 -- the numbers of a call say which call it is
-decoded : (c : Call) → call_by (code_kind (numbers_of c).code) (numbers_of c).first (numbers_of c).second ≡ some c
-decoded (Acquire m) = refl
-decoded (Release m) = refl
-decoded (Wait m c) = refl
-decoded (Signal c) = refl
-decoded (Broadcast c) = refl
-decoded (P s) = refl
-decoded (V s) = refl
-decoded (Alert t) = refl
+decoded : (c : Call) → call_by (code_kind (call_no (kind_of (some c)))) (request_of (some c)).x (request_of (some c)).y ≡ some c
 decoded TestAlert = refl
-decoded (AlertP s) = refl
-decoded (AlertWait m c) = refl
+decoded c = refl
 
 begins_busy : (c : Call) → is_idle (first (kind_of (some c))) ≡ false
-begins_busy (Acquire m) = refl
-begins_busy (Release m) = refl
-begins_busy (Wait m c) = refl
-begins_busy (Signal c) = refl
-begins_busy (Broadcast c) = refl
-begins_busy (P s) = refl
-begins_busy (V s) = refl
-begins_busy (Alert t) = refl
 begins_busy TestAlert = refl
-begins_busy (AlertP s) = refl
-begins_busy (AlertWait m c) = refl
+begins_busy c = refl
 
 same_self : (c : Call) → same_call c c ≡ true
-same_self c =
-    simp
-    (eq-eqb (numbers_of c).code (numbers_of c).code refl, eq-eqb (numbers_of c).first (numbers_of c).first refl, eq-eqb (numbers_of c).second (numbers_of c).second refl)
+same_self c = grind arith
 
 pub granted : GrantedAccepted
 granted k t c w e =
-    let o : Option Call = call_by (code_kind (numbers_of c).code) (numbers_of c).first (numbers_of c).second in
+    let o : Option Call = call_by (code_kind (call_no (kind_of (some c)))) (request_of (some c)).x (request_of (some c)).y in
     let there = (ready (ltb t k.sizes.threads) (is_idle (thread_at k t).stage) _ e).0 in
     let h : t < length k.threads = omega (arith, ltb-true t k.sizes.threads there, w) in
     let begun : Core = with_threads k (set k.threads t (started o (thread_at k t))) in
@@ -73,19 +50,8 @@ granted k t c w e =
     ∙ ap (λ (b : Bool). by true b (some c) c) (begins_busy c)
     ∙ ap (λ (b : Bool). cond b none (some OtherCall)) (same_self c)
 
-second_of_five : (a b c d e : Bool) → (a && b && c && d && e) ≡ true → b ≡ true
-second_of_five true true c d e h = refl
-second_of_five true false c d e h = h
-second_of_five false b c d e h = absurd (false≢true h)
-
-built_go : (b : Bool) (serves : ℕ) (z : Sizes) → sizes_fit serves z ≡ b → serves ≤ 64 → (cond b z least_sizes).threads ≤ 64
-built_go true serves z e h =
-    let few : z.threads ≤ serves = leb-true z.threads serves (second_of_five (leb 1 z.threads) (leb z.threads serves) (leb z.mutexes 16) (leb z.conditions 16) (leb z.semaphores 16) e) in
-    omega (arith, few, h)
-built_go false serves z e h = omega arith
-
 pub built : BuiltRecorded
-built serves z n h = omega (arith, built_go (sizes_fit serves z) serves z refl h, length-replicate 64 idle_thread)
+built serves z n h = grind (arith, length-replicate 64 idle_thread)
 
 long : (k k' : Core) → k'.sizes ≡ k.sizes → length k'.threads ≡ length k.threads → Recorded k → Recorded k'
 long k k' z l h = let y : k'.sizes.threads ≡ k.sizes.threads = ap (λ (s : Sizes). s.threads) z in omega (arith, y, l, h)
@@ -111,5 +77,5 @@ stays K k f (turn u) h = way (ltb u k.sizes.threads) (is_idle (thread_at k u).st
     way true true = h
     way true false =
         let p = performed_follows K s u (thread_at k u).call r f in
-        long k (performed K s u (thread_at k u).call r f).core p.sizes! (p.long! ∙ length-set k.threads u (thread_after (thread_at k u) (sight_of K k f u))) h
+        long k (performed K s u (thread_at k u).call r f).core p.sizes! (p.alike!.long! ∙ length-set k.threads u (thread_after (thread_at k u) (sight_of K k f u))) h
     way false i = h

@@ -22,7 +22,7 @@ use Rattle.nub.specs.Build.{built_sizes, built_core}
 use Rattle.nub.specs.Turn.{turned, moves}
 use Rattle.tickets.specs.declared.ticket.Ticket.{Ticket}
 use Rattle.tickets.specs.declared.ticket.Turned.TheVariants as gave
-use Rattle.tickets.specs.Submissions.{verdict_for, submits}
+use Rattle.nub.specs.Submissions.{verdict_for, submits}
 use Rattle.tickets.specs.Refusals.{refusal_for}
 use Rattle.tickets.specs.Tickets.{ticket_turn}
 

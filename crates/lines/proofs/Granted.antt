@@ -1,40 +1,43 @@
--- What `add` and `remove` answer, past their first checks. Assumes nothing.
-use Rattle.std.proofs.Common.{◌≡◌, ℕ, ◌<◌, true, false, List, length, get_or, is_some, Some, None, Ok, Err, Option, sym, ap, ◌∙◌, MatchOption}
-use Rattle.std.proofs.lemmas.Bool.{lt-ltb, eq-eqb, ne_eqb}
+-- What `take` and `remove` find and leave. Assumes nothing.
+use Rattle.std.proofs.Common.{◌≡◌, ℕ, ◌<◌, Bool, true, ◌&&◌, ◌==◌, List, length, is_some, IfSome, Some, None, Option, sym, ap, subst, ◌∙◌}
+use Rattle.std.specs.List.{remove}
+use Rattle.std.proofs.lemmas.Bool.{eqb-true, and_parts}
+use Rattle.std.proofs.lemmas.List.Folds.{list_any_at}
 use Rattle.lines.specs.declared.arrival.Arrival.{Arrival}
-use Rattle.lines.specs.declared.decline.Decline.TheVariants.{AlreadyInSet, NotInLine}
-use Rattle.lines.specs.Lines.{lines, add_answer, remove_answer}
-use Rattle.lines.specs.Arrivals.{arrival, members, seen, sound, quit, line_at, thread_at}
-use Rattle.lines.specs.Facts.{seen_at, has_seen, has_at}
-use Rattle.lines.proofs.Standing.{stands_seen}
+use Rattle.lines.specs.Lines.{has}
+use Rattle.lines.specs.Arrivals.{arrival, members, place, sound, quit, line_at, thread_at, Chosen}
+use Rattle.lines.specs.Choosing.{left_by}
+use Rattle.lines.proofs.Leaving.{removed_quit, sound_quit}
+use Rattle.lines.proofs.Placing.{FirstAt, first_position, has_any}
 
--- what `position` says
-abbrev Position : ℕ → List Arrival → Option ℕ → Type 0
-Position t es o = MatchOption o (seen t es ≡ false) (λ i. (i < length es) × (thread_at es i ≡ t))
+pub sound_removed : (n : ℕ) (es : List Arrival) (i : ℕ) → sound n es ≡ true → i < length es → sound n (remove es i) ≡ true
+sound_removed n es i s h = ap (sound n) (removed_quit n es i s h) ∙ sound_quit n _ _ es s
 
-pub position_some : (t : ℕ) (es : List Arrival) (o : Option ℕ) → Position t es o → is_some o ≡ seen t es
-position_some t es None h = sym h
-position_some t es (Some i) h = sym (seen_at t es i h.0 h.1)
+pub taken_left : (n l : ℕ) (es : List Arrival) (o : Option ℕ) (i : ℕ) → sound n es ≡ true → Chosen es l o (Some i) → remove es i ≡ left_by o l es
+taken_left n l es o i s h = removed_quit n es i s h.0 ∙ (λ j. quit (h.1 j) (thread_at es i) es) ∙ ap (λ x. left_by x l es) (sym h.2)
 
-module _ (n l t : ℕ) (es : List Arrival) (s : sound n es ≡ true) (hl : l < lines) (ht : t < n) where
-  pub add_standing : seen t es ≡ true → Err AlreadyInSet ≡ add_answer n (members es) l t
-  add_standing h = rw (lt-ltb l lines hl, lt-ltb t n ht, stands_seen n t es s ∙ h)
+-- an arrival of thread t in line l
+abbrev Of : ℕ → ℕ → Arrival → Bool
+Of l t e = e.line == l && e.thread == t
 
-  pub add_granted : seen t es ≡ false → Ok tt ≡ add_answer n (members es) l t
-  add_granted h = rw (lt-ltb l lines hl, lt-ltb t n ht, stands_seen n t es s ∙ h)
+module _ (l t : ℕ) (es : List Arrival) (i : ℕ) (at : Some i ≡ place l t es) where
+  found : FirstAt (Of l t) es (arrival 0 0) (Some i)
+  unfolding place
+  found = subst (FirstAt (Of l t) es (arrival 0 0)) (sym at) (first_position (Of l t) es (arrival 0 0))
 
-  pub remove_absent : seen t es ≡ false → Err NotInLine ≡ remove_answer n (members es) l t
-  remove_absent h = rw (lt-ltb l lines hl, lt-ltb t n ht, has_seen t l es h)
+  here : has t (members es l) ≡ true
+  here = has_any l t es ∙ list_any_at (Of l t) es i (arrival 0 0) found.0 found.1
 
-  -- e is the arrival of t
-  module _ (i : ℕ) (there : i < length es) (found : thread_at es i ≡ t) (e : Arrival) (read : e ≡ get_or es i (arrival 0 0)) where
-    pub remove_elsewhere : (e.line ≡ l → ⊥) → Err NotInLine ≡ remove_answer n (members es) l t
-    remove_elsewhere ne =
-        rw (lt-ltb l lines hl, lt-ltb t n ht, has_at n t l es i s there found, ne_eqb (line_at es i) l (λ same. ne (ap (λ x. x.line) read ∙ same)))
+  pub removed_at : (n : ℕ) → sound n es ≡ true → remove es i ≡ quit l t es
+  removed_at n s =
+      let p = and_parts (line_at es i == l) (thread_at es i == t) found.1 in
+      removed_quit n es i s found.0 ∙ (λ j. quit (eqb-true _ _ p.0 j) (eqb-true _ _ p.1 j) es)
 
-    pub remove_granted : e.line ≡ l → Ok tt ≡ remove_answer n (members es) l t
-    remove_granted same =
-        rw (lt-ltb l lines hl, lt-ltb t n ht, has_at n t l es i s there found, eq-eqb (line_at es i) l (sym (ap (λ x. x.line) read) ∙ same))
+pub has_place : (l t : ℕ) (es : List Arrival) (o : Option ℕ) → o ≡ place l t es → has t (members es l) ≡ is_some o
+unfolding place
+has_place l t es None at = has_any l t es ∙ subst (FirstAt (Of l t) es (arrival 0 0)) (sym at) (first_position (Of l t) es (arrival 0 0))
+has_place l t es (Some i) at = here l t es i at
 
-    pub remove_left : (rest : List Arrival) → rest ≡ quit (line_at es i) (thread_at es i) es → e.line ≡ l → rest ≡ quit l t es
-    remove_left rest left same = left ∙ (λ j. quit ((sym (ap (λ x. x.line) read) ∙ same) j) (found j) es)
+pub removed_if : (n l t : ℕ) (es : List Arrival) (o : Option ℕ) → sound n es ≡ true → o ≡ place l t es → IfSome o (λ i. remove es i ≡ quit l t es)
+removed_if n l t es None s at = tt
+removed_if n l t es (Some i) s at = removed_at l t es i at n s

@@ -1,12 +1,13 @@
 -- A sound list of arrivals stays sound as one leaves or comes, and never outgrows the threads that are served. Assumes nothing.
-use Rattle.std.proofs.Common.{◌≡◌, ℕ, zero, suc, ◌<◌, ◌≤◌, true, false, cond, ◌&&◌, eqb, List, [], ◌∷◌, ◌++◌, length, get_or, sym, refl, ap, ◌∙◌, ⊎_elim, arith}
+use Rattle.std.proofs.Common.{◌≡◌, ℕ, zero, suc, ◌<◌, ◌≤◌, true, false, cond, ◌&&◌, eqb, ◌==◌, List, [], ◌∷◌, ◌++◌, length, get_or, sym, refl, ap, ◌∙◌, ⊎_elim, arith}
 use Rattle.std.specs.List.{remove}
 use Rattle.std.proofs.lemmas.List.{length_push}
+use Rattle.std.proofs.lemmas.List.Folds.{list_any-append}
 use Rattle.std.proofs.lemmas.Bool.{true≢false, ne_eqb, eq-eqb, or_from, or_parts, and_from, and_right, not_from_false, cases_Bool, eqb-true, eqb-false, lt-ltb, ltb-true}
 use Rattle.lines.specs.declared.arrival.Arrival.{Arrival}
 use Rattle.lines.specs.Lines.{lines}
 use Rattle.lines.specs.Arrivals.{arrival, seen, sound, quit, line_at, thread_at}
-use Rattle.lines.specs.Facts.{First, first_sound, seen_at, seen_append}
+use Rattle.lines.specs.Facts.{First, first_sound, seen_at}
 
 pub sound_from : (n : ℕ) (e : Arrival) (es : List Arrival) → First n e es → sound n (e ∷ es) ≡ true
 sound_from n e es f = and_from _ _ (and_from _ _ f.line f.thread) (and_from _ _ (not_from_false _ f.apart) f.rest)
@@ -56,7 +57,7 @@ sound_push n l t (e ∷ es) s hl ht h =
     sound_from n e (es ++ arrival l t ∷ []) (record {
       line = p.line;
       thread = p.thread;
-      apart = seen_append e.thread es _ ∙ or_from _ _ p.apart (or_from _ _ back refl);
+      apart = list_any-append (λ (x : Arrival). x.thread == e.thread) es _ ∙ or_from _ _ p.apart (or_from _ _ back refl);
       rest = sound_push n l t es p.rest hl ht q.1;
     })
 

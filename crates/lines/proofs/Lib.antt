@@ -1,6 +1,6 @@
 pub mod Standing
 pub mod Leaving
-pub mod Gaps
+pub mod Placing
 pub mod Emptying
 pub mod Highest
 pub mod Granted

@@ -1,11 +1,12 @@
 -- A thread stands in one of the lines exactly if it is seen among the arrivals. Assumes nothing.
 use Rattle.std.proofs.Common.{◌≡◌, ℕ, zero, suc, Bool, true, false, ◌&&◌, ◌||◌, eqb, ltb, List, [], ◌∷◌, refl, ◌∙◌, ⊎_elim, arith}
+use Rattle.std.proofs.Math.Bool.{or_assoc}
 use Rattle.std.proofs.lemmas.Bool.{cases_Bool, eqb-true, eqb-false, lt-ltb, le-ltb}
 use Rattle.std.proofs.lemmas.Bool.Decides.{nat_tests}
 use Rattle.lines.specs.declared.arrival.Arrival.{Arrival}
 use Rattle.lines.specs.Lines.{lines, has, stands}
 use Rattle.lines.specs.Arrivals.{members, seen, sound}
-use Rattle.lines.specs.Facts.{or_assoc, first_sound}
+use Rattle.lines.specs.Facts.{first_sound}
 
 stands_none : (m t : ℕ) → stands m (members []) t ≡ false
 unfolding stands

@@ -2,13 +2,16 @@
 --     arrival l t               thread t that came to line l
 --     members es                the lines that the arrivals make
 --     seen t es                 thread t stands, in whatever line
+--     first_place l es          the place of the earliest arrival of line l, if there is one
+--     place l t es              the place of the arrival of thread t in line l, if there is one
 --     sound n es                each thread is below n and stands once, each line is one that there is
 --     quit l t es               the arrivals without thread t in line l
 --     others l es               the arrivals without those of line l
 --     earliest ts               the earliest of a line's members
 --     line_at es i, thread_at es i      the line and the thread of the arrival at place i
 --     Chosen es l o r           r is the place of the one that o chooses in line l, and none where o chooses none
-use Rattle.std.specs.Prelude.{◌≡◌, ℕ, ◌<◌, Bool, true, false, cond, not, ◌&&◌, ◌||◌, List, [], ◌∷◌, length, Some, None, Option, ◌==◌, nat_lt, slice_index_or}
+use Rattle.std.specs.Prelude.{◌≡◌, ℕ, ◌<◌, Bool, true, cond, not, ◌&&◌, List, [], ◌∷◌, length, Some, None, Option, ◌==◌, nat_lt, slice_index_or}
+use Rattle.std.specs.List.{list_any, position}
 use Rattle.lines.specs.declared.arrival.Arrival.{Arrival}
 use Rattle.lines.specs.Lines.{Lines, lines}
 
@@ -20,8 +23,14 @@ members [] l = []
 members (e ∷ es) l = cond (e.line == l) (e.thread ∷ members es l) (members es l)
 
 abbrev pub seen : ℕ → List Arrival → Bool
-seen t [] = false
-seen t (e ∷ es) = e.thread == t || seen t es
+seen t es = list_any (λ e. e.thread == t) es
+
+-- a proof unfolds these two by name, so that what a place tells is said by lemmas
+unfoldable pub first_place : ℕ → List Arrival → Option ℕ
+first_place l es = position (λ e. e.line == l) es
+
+unfoldable pub place : ℕ → ℕ → List Arrival → Option ℕ
+place l t es = position (λ e. e.line == l && e.thread == t) es
 
 abbrev pub sound : ℕ → List Arrival → Bool
 sound n [] = true

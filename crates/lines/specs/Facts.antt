@@ -3,7 +3,7 @@ use Rattle.std.specs.Prelude.{◌≡◌, ℕ, zero, suc, ◌+◌, ◌<◌, Bool,
 use Rattle.std.proofs.Common.{sym, ap, ◌∙◌, ⊎_elim, arith}
 use Rattle.std.proofs.lemmas.List.{take_more}
 use Rattle.std.proofs.lemmas.Bool.{true≢false, ne_eqb, eq-eqb, or_from, or_parts, and_parts, cases_Bool, not-true, ltb-true}
-use Rattle.std.proofs.lemmas.Bool.Decides.{nat_tests}
+use Rattle.std.proofs.lemmas.List.Folds.{list_any_at}
 use Rattle.lines.specs.declared.arrival.Arrival.{Arrival}
 use Rattle.lines.specs.Lines.{lines, has}
 use Rattle.lines.specs.Arrivals.{arrival, members, seen, sound, earliest, line_at, thread_at}
@@ -46,9 +46,7 @@ has_seen t l (e ∷ es) h =
     (cases_Bool (e.line == l))
 
 pub seen_at : (t : ℕ) (es : List Arrival) (i : ℕ) → i < length es → thread_at es i ≡ t → seen t es ≡ true
-seen_at t [] i h e = absurd (omega arith)
-seen_at t (e ∷ es) zero h eq = rw (eq-eqb e.thread t eq)
-seen_at t (e ∷ es) (suc i) h eq = let r = seen_at t es i (omega arith) eq in grind (arith, nat_tests)
+seen_at t es i h eq = list_any_at (λ e. e.thread == t) es i (arrival 0 0) h (eq-eqb (thread_at es i) t eq)
 
 -- a thread stands in the line of its arrival, and in no other
 pub has_at : (n t l : ℕ) (es : List Arrival) (i : ℕ) → sound n es ≡ true → i < length es → thread_at es i ≡ t → has t (members es l) ≡ (line_at es i == l)

@@ -2,8 +2,9 @@
 #![tactic(auto)]
 
 mod arrival;
-mod arrivals;
+pub mod choice;
 pub mod decline;
 pub mod first_come;
 pub mod ranked;
 pub mod set;
+pub mod waiting;

@@ -29,6 +29,9 @@ pub trait LineSet: Sized {
     /// What a new set is made from.
     type Maker;
 
+    // The same number, for clauses.
+    ghost SERVES: { ℕ };
+
     // The kind as a machine: its states, the members of each line, the choice, and the state after each operation.
     ghost kind: { Kind };
 
@@ -40,7 +43,8 @@ pub trait LineSet: Sized {
 
     /// `SERVES`, as a number that contracts can speak of.
     fn limit() -> usize
-        ensures { result ≡ kind.serves };
+        ensures value { result ≡ kind.serves }
+        ensures constant { result ≡ SERVES };
 
     /// A set whose lines are all empty.
     fn make(maker: Self::Maker) -> Self

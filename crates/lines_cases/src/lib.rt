@@ -63,7 +63,7 @@ mod tests {
     fn refusal(answer: Result<(), Decline>) -> u8 {
         match answer {
             Ok(()) => 0,
-            Err(decline) => decline.number(),
+            Err(decline) => u8::from(decline),
         }
     }
 

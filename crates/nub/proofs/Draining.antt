@@ -1,8 +1,8 @@
 -- A line taken from until it is empty, over any kind that keeps the laws.
-use Rattle.std.proofs.Common.{◌≡◌, ℕ, suc, ◌<◌, Bool, true, false, cond, not, eqb, ltb, List, [], ◌∷◌, length, Some, None, Option, sym, refl, ap, ◌∙◌, subst, ⊎_elim, arith}
+use Rattle.std.proofs.Common.{◌≡◌, ℕ, suc, ◌<◌, Bool, true, false, cond, not, eqb, ltb, List, [], ◌∷◌, length, Some, None, sym, refl, ap, ◌∙◌, subst, ⊎_elim, arith}
 use Rattle.std.proofs.lemmas.Bool.{cases_Bool, ltb-true, lt-ltb, eqb-true, true≢false, and_parts, or_parts, not-true}
 use Rattle.lines.specs.Lines.{has, without, distinct, lines}
-use Rattle.lines.specs.Kinds.{Kind, Laws, Picks}
+use Rattle.lines.specs.Kinds.{Kind, Laws}
 use Rattle.lines.proofs.Taking.{Took, member, lines_then, put_here}
 use Rattle.nub.specs.Lining.{standing, drained, drain_in, take_in, who_in}
 
@@ -12,7 +12,7 @@ without_none t (x ∷ xs) h =
     let p = or_parts (eqb x t) (has t xs) h in
     ap (λ (b : Bool). cond b (without t xs) (x ∷ without t xs)) p.0 ∙ ap (λ (ys : List ℕ). x ∷ ys) (without_none t xs p.1)
 
-exact : (t : ℕ) (xs : List ℕ) → distinct xs ≡ true → has t xs ≡ true → length xs ≡ suc (length (without t xs))
+pub exact : (t : ℕ) (xs : List ℕ) → distinct xs ≡ true → has t xs ≡ true → length xs ≡ suc (length (without t xs))
 exact t [] d h = absurd (true≢false (sym h))
 exact t (x ∷ xs) d h =
     let p = and_parts (not (has x xs)) (distinct xs) d in
@@ -55,25 +55,4 @@ module _ (K : Kind) (laws : Laws K) (s s' : K.State) (l : ℕ) where
       ⊎_elim
       (λ (y : ltb l lines ≡ true). record { inside = ltb-true l lines y; found = sym (rw y at v); left = rw y at a })
       (λ (y : ltb l lines ≡ false). let b : Some t ≡ None = rw y at v in let z : ◌≡◌ {A = ℕ} 0 1 = cc in absurd (omega arith))
-      (cases_Bool (ltb l lines))
-
-  -- a take that gave nobody: the line is drained
-  pub drain_end : None ≡ who_in K s l → s' ≡ take_in K s l → s' ≡ drain_in K s l
-  drain_end v a =
-      ⊎_elim
-      (λ (y : ltb l lines ≡ true).
-      let e : None ≡ K.next s l = rw y at v in
-      let n : K.line s l ≡ [] = subst (λ (o : Option ℕ). Picks o (K.line s l)) (sym e) (laws.picks s l) in
-      let f : s' ≡ K.taken s l = rw y at a in
-      rw y (f ∙ sym (ap (λ (xs : List ℕ). drained K l (length xs) s) n)))
-      (λ (y : ltb l lines ≡ false). let f : s' ≡ s = rw y at a in rw y f)
-      (cases_Bool (ltb l lines))
-
-  pub standing_end : None ≡ who_in K s l → standing K s l ≡ []
-  standing_end v =
-      ⊎_elim
-      (λ (y : ltb l lines ≡ true).
-      let e : None ≡ K.next s l = rw y at v in
-      rw y (subst (λ (o : Option ℕ). Picks o (K.line s l)) (sym e) (laws.picks s l)))
-      (λ (y : ltb l lines ≡ false). rw y refl)
       (cases_Bool (ltb l lines))

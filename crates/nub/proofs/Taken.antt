@@ -1,6 +1,6 @@
 -- Threads taken from a line: marks, masks and woken records.
 use Rattle.std.proofs.Common.{◌≡◌, ℕ, zero, suc, ◌+◌, ◌*◌, ◌%◌, ◌^◌, ◌<◌, Bool, true, false, cond, ◌||◌, List, [], ◌∷◌, length, get_or, take, set, sym, refl, ap, ◌∙◌, subst, ⊎_elim, le_of_suc-le-suc, not-suc-le-zero, add-zero, add-suc, suc-add, pow-suc, zero-add, add-one, arith, get_or-set_other, get_or-set_same}
-use mathlib.Core.Bool.{or-true, or-false}
+use mathlib.Core.Bool.{or-true}
 use Rattle.std.proofs.lemmas.Bool.{cases_eq}
 use Rattle.std.proofs.lemmas.Bool.Decides.{nat_tests}
 use lib.Bits.{bit_or, or_shifted_r}
@@ -38,11 +38,6 @@ marks_again xs₀ xs xs' bs₀ bs bs' t ex eb m l inv n h =
     let here = marks_more xs t n bs m long in
     let was = inv n h in
     cc
-
-pub marks_end : (xs₀ xs : List ℕ) (bs₀ bs : List Bool) → xs ≡ []
-    → ((n : ℕ) → n < length bs₀ → (get_or bs n false || has n xs) ≡ (get_or bs₀ n false || has n xs₀))
-    → (n : ℕ) → n < length bs₀ → get_or bs n false ≡ (get_or bs₀ n false || has n xs₀)
-marks_end xs₀ xs bs₀ bs e inv n h = sym (ap (λ (ys : List ℕ). get_or bs n false || has n ys) e ∙ or-false (get_or bs n false)) ∙ inv n h
 
 -- the mask with one thread more
 pub mask_step : (p : ℕ → Bool) (n : ℕ) → mask_of p (suc n) ≡ mask_of p n + cond (p n) (2 ^ n) 0

@@ -7,4 +7,5 @@ pub mod UnderWay
 pub mod Build
 pub mod Work
 pub mod Turn
+pub mod Submissions
 pub mod Marked

@@ -4,7 +4,7 @@
 --   gate_line    the line of a call's mutex or semaphore, if it has one
 --   cond_line    the line of its condition
 --   line_in      the line that an effect works on
-use Rattle.std.specs.Prelude.{ℕ, ◌+◌, ◌<◌, Bool, cond, Some as some, None as none, Option, nat_lt}
+use Rattle.std.specs.Prelude.{ℕ, ◌+◌, Bool, cond, Some as some, None as none, Option, nat_lt}
 use Rattle.stages.specs.Names.{has_gate, is_mutex, call_no}
 use Rattle.stages.specs.Calls.{Object, request_of, kind_of, gate_of, condition_of}
 use Rattle.stages.specs.Calls.Object.{mutex, semaphore, condition}
@@ -52,8 +52,3 @@ line_in leave_cond c = cond_line c
 line_in wake_gate c = gate_line c
 line_in signal_one c = cond_line c
 line_in signal_all c = cond_line c
-
--- a line that there is
-abbrev pub Under : Option ℕ → Type 0
-Under none = Unit {0}
-Under (some l) = l < 48

@@ -6,6 +6,14 @@ ghost use Rattle.nub.specs.View.{core_of, lines_of};
 use crate::*;
 use lines::set::LineSet;
 
+// The sizes of the least nub: one thread and no objects.
+const LEAST: Sizes = Sizes {
+    threads: 1,
+    mutexes: 0,
+    conditions: 0,
+    semaphores: 0,
+};
+
 impl Sizes {
     /// Whether there can be a nub of these sizes over lines of the kind `L`: at least one thread, no more threads than
     /// the lines serve, and at most sixteen of each kind of object.
@@ -28,14 +36,10 @@ impl Sizes {
     fn or_least<L: LineSet>(self) -> Sizes
         ensures { result ≡ built_sizes L.LineSet.kind.serves self }
     {
-        match self.check::<L>() {
-            Ok(()) => self,
-            Err(_) => Sizes {
-                threads: 1,
-                mutexes: 0,
-                conditions: 0,
-                semaphores: 0,
-            },
+        if self.check::<L>().is_ok() {
+            self
+        } else {
+            LEAST
         }
     }
 }
@@ -58,6 +62,7 @@ impl Core {
 impl<L: LineSet> Nub<L> {
     /// A new nub of these sizes, whose conditions begin at the count `start`. Where the check declines the sizes, it has one
     /// thread and no objects.
+    // No struct of the three parameters: the check takes the sizes alone, and first-come lines are made from nothing.
     pub fn make(sizes: Sizes, start: u32, maker: L::Maker) -> Nub<L>
         ensures core { core_of result ≡ built_core (built_sizes L.LineSet.kind.serves sizes) start }
         ensures lines { L.LineSet.state (lines_of result) ≡ L.LineSet.fresh maker }

@@ -14,9 +14,10 @@ impl<L> Nub<L> {
         if t >= self.core.sizes.threads {
             return Err(Decline::NoThread);
         }
-        if records::stage_at(&self.core.threads, t).is_idle() {
+        let thread = records::at(&self.core.threads, t);
+        if thread.stage().is_idle() {
             return Err(Decline::IdleThread);
         }
-        Ok(records::call_at(&self.core.threads, t))
+        Ok(thread.call())
     }
 }

@@ -1,4 +1,6 @@
 //! The table of thread records: one record lent at a time, and loops over the slice of them.
+//! A record is lent by index: a proof is told nothing of what is written through the `get_mut` of a slice. Each use has a
+//! function of its own: one that lends a record to a closure would leave it to its callers to state what that makes of it.
 ghost use Rattle.std.specs.Prelude.{◌≡◌, ◌<◌, ◌≤◌, false, ◌&&◌, ◌||◌, length, get_or, Some, ◌==◌, slice_index_or, slice_set};
 ghost use Rattle.thread.specs.Turns.{idle_thread, state_of, thread_after, step_after, started, between_on, woken_thread, flagged};
 ghost use Rattle.nub.specs.Model.{mask_of};
@@ -10,18 +12,11 @@ use stages::stage::Stage;
 use stages::step::*;
 use thread::record::Thread;
 
-/// The stage of thread `t`; Idle where there is no such record.
-pub(crate) fn stage_at(threads: &[Thread], t: usize) -> Stage
-    ensures { result ≡ (get_or threads.now t idle_thread).stage }
+/// The record of thread `t`; an idle one where there is no such record.
+pub(crate) fn at(threads: &[Thread], t: usize) -> Thread
+    ensures { result ≡ slice_index_or threads.now t idle_thread }
 {
-    table::at(threads, t, Thread::new()).stage()
-}
-
-/// The call of thread `t`; none where there is no such record.
-pub(crate) fn call_at(threads: &[Thread], t: usize) -> Option<Call>
-    ensures { result ≡ (get_or threads.now t idle_thread).call }
-{
-    table::at(threads, t, Thread::new()).call()
+    table::at(threads, t, Thread::new())
 }
 
 /// The call of thread `t` begins.

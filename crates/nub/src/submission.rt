@@ -1,12 +1,13 @@
-//! Submissions: a thread, a call code and two object numbers, checked in the order of the declines.
-ghost use Rattle.std.specs.Prelude.{◌≡◌, not, ◌&&◌, Some, nat_le};
+//! Submissions: a thread and its call, as such or by a code and two object numbers, checked in the order of the declines.
+ghost use Rattle.std.specs.Prelude.{◌≡◌, not, ◌&&◌, Some, None, nat_le};
 ghost use Rattle.stages.specs.Names.{counted};
 ghost use Rattle.stages.specs.Calls.{request_of, kind_of, is_this};
 ghost use Rattle.nub.specs.Answers.{of_submission};
 ghost use Rattle.nub.specs.Model.{needs_owner, high_count};
 ghost use Rattle.nub.specs.View.{core_of, lines_of};
 ghost use Rattle.nub.specs.Work.{count_at, owner_at};
-ghost use Rattle.nub.specs.Turn.{call_of, submitted_in, verdict_in, answer_in};
+ghost use Rattle.nub.specs.Turn.{call_of, exists_in, submitted_in, verdict_in, answer_in};
+ghost use Rattle.nub.specs.Submissions.{of_thread, of_call, begun, submits, result_of, answer_for};
 
 use crate::{records, table, *};
 use lines::set::LineSet;
@@ -40,13 +41,19 @@ fn call_of(sizes: Sizes, code: u32, a: usize, b: usize) -> Result<Call, Decline>
     }
 }
 
-// Whether `owner` is another thread than t, or none.
-fn not_owner(t: usize, owner: Option<usize>) -> bool
-    ensures { result ≡ not (is_this t owner) }
-{
-    match owner {
-        Some(owner) => t != owner,
-        None => true,
+impl Sizes {
+    // Whether the objects of a call exist. `call_of` has the same checks as guards over codes, where there is no call yet.
+    fn have(self, call: Call) -> bool
+        ensures { result ≡ exists_in self (kind_of (Some call)) (request_of (Some call)).x (request_of (Some call)).y }
+    {
+        match call {
+            Call::Acquire(m) | Call::Release(m) => m < self.mutexes,
+            Call::Wait(m, c) | Call::AlertWait(m, c) => m < self.mutexes && c < self.conditions,
+            Call::Signal(c) | Call::Broadcast(c) => c < self.conditions,
+            Call::P(s) | Call::V(s) | Call::AlertP(s) => s < self.semaphores,
+            Call::Alert(t) => t < self.threads,
+            Call::TestAlert => true,
+        }
     }
 }
 
@@ -56,9 +63,9 @@ impl Core {
         ensures { result ≡ (needs_owner (kind_of (Some call)) && not (is_this t (owner_at self.now (request_of (Some call)).x))) }
     {
         match call {
-            Call::Release(m) => not_owner(t, table::at(&self.owners, m, None)),
-            Call::Wait(m, _) => not_owner(t, table::at(&self.owners, m, None)),
-            Call::AlertWait(m, _) => not_owner(t, table::at(&self.owners, m, None)),
+            Call::Release(m) | Call::Wait(m, _) | Call::AlertWait(m, _) => {
+                table::at(&self.owners, m, None).is_none_or(|owner| owner != t)
+            }
             _ => false,
         }
     }
@@ -68,26 +75,29 @@ impl Core {
         ensures { result ≡ (counted (kind_of (Some call)) && nat_le high_count (count_at self.now (request_of (Some call)).x)) }
     {
         match call {
-            Call::Signal(c) => table::at(&self.counts, c, 0) >= HIGH_COUNT,
-            Call::Broadcast(c) => table::at(&self.counts, c, 0) >= HIGH_COUNT,
+            Call::Signal(c) | Call::Broadcast(c) => table::at(&self.counts, c, 0) >= HIGH_COUNT,
             _ => false,
         }
     }
 
-    fn submit(&mut self, t: usize, code: u32, a: usize, b: usize) -> Result<(), Decline>
-        ensures core { self.new ≡ submitted_in self.old t code a b }
-        ensures answer { of_submission result ≡ answer_in (verdict_in self.old t code a b) }
+    // Why thread t cannot begin any call.
+    fn check_thread(&self, t: usize) -> Result<(), Decline>
+        ensures { result ≡ result_of (of_thread self.now t None) }
     {
         if t >= self.sizes.threads {
             return Err(Decline::NoThread);
         }
-        if !records::stage_at(&self.threads, t).is_idle() {
+        if !records::at(&self.threads, t).stage().is_idle() {
             return Err(Decline::UnderWay);
         }
-        let call = match call_of(self.sizes, code, a, b) {
-            Ok(call) => call,
-            Err(decline) => return Err(decline),
-        };
+        Ok(())
+    }
+
+    // Begins a call of thread t, which has none under way, on objects that exist.
+    fn begin(&mut self, t: usize, call: Call) -> Result<(), Decline>
+        ensures after { self.new ≡ begun self.old t (Some call) (of_call self.old t (Some call)) }
+        ensures answer { result ≡ result_of (of_call self.old t (Some call)) }
+    {
         if self.foreign(t, call) {
             return Err(Decline::NotOwner);
         }
@@ -97,16 +107,46 @@ impl Core {
         records::start_at(&mut self.threads, t, call);
         Ok(())
     }
+
+    fn submit(&mut self, t: usize, code: u32, a: usize, b: usize) -> Result<(), Decline>
+        ensures core { self.new ≡ submitted_in self.old t code a b }
+        ensures answer { result ≡ result_of (verdict_in self.old t code a b) }
+    {
+        self.check_thread(t)?;
+        let call = call_of(self.sizes, code, a, b)?;
+        self.begin(t, call)
+    }
+
+    fn submit_call(&mut self, t: usize, call: Call) -> Result<(), Decline>
+        ensures core { self.new ≡ submits self.old t call }
+        ensures answer { result ≡ answer_for self.old t call }
+    {
+        self.check_thread(t)?;
+        if !self.sizes.have(call) {
+            return Err(Decline::NoObject);
+        }
+        self.begin(t, call)
+    }
 }
 
 impl<L: LineSet> Nub<L> {
     /// A submission of thread `t`: the call with the code `code` and the objects `a` and `b`, of which those that the call has
     /// no use for are ignored. A decline alters nothing.
+    #[tactic(auto, using(crate::proofs::Submitted::answer_of))]
     pub fn submit(&mut self, t: usize, code: u32, a: usize, b: usize) -> Result<(), Decline>
         ensures core { core_of self.new ≡ submitted_in (core_of self.old) t code a b }
         ensures lines { lines_of self.new ≡ lines_of self.old }
         ensures answer { of_submission result ≡ answer_in (verdict_in (core_of self.old) t code a b) }
     {
         self.core.submit(t, code, a, b)
+    }
+
+    /// The same with the call itself, which answers and leaves what its code and its objects would.
+    pub fn submit_call(&mut self, t: usize, call: Call) -> Result<(), Decline>
+        ensures core { core_of self.new ≡ submits (core_of self.old) t call }
+        ensures lines { lines_of self.new ≡ lines_of self.old }
+        ensures answer { result ≡ answer_for (core_of self.old) t call }
+    {
+        self.core.submit_call(t, call)
     }
 }

@@ -8,6 +8,6 @@ use std::io::{Read, Write};
 fn main(rt: HostRuntime) -> io::Result<()> {
     let mut input = Vec::new(rt.alloc());
     rt.stdin().read_to_end(&mut input)?;
-    let out = run_script(rt.alloc(), input.as_slice())?;
-    rt.stdout().write_all(out.as_slice())
+    let out = run_script(rt.alloc(), &input)?;
+    rt.stdout().write_all(&out)
 }

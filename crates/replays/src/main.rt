@@ -30,15 +30,16 @@ const EVENTS: [Event; 18] = [
     Event::Turn(3),
 ];
 
+// No `Display`: an answer's type is of another crate.
 fn show(rt: &HostRuntime, answer: Answer) -> io::Result<()> {
     match answer {
         Answer::Granted => print!(rt; " ok"),
         Answer::Declined(decline) => {
-            let number = decline.number();
+            let number = u8::from(decline);
             print!(rt; " no:{number}")
         }
         Answer::Reported(report) => {
-            let status = report.status.number();
+            let status = u8::from(report.status);
             let action = Action::number(report.action);
             print!(rt; " {status}:{action}")
         }

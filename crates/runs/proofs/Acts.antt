@@ -1,5 +1,6 @@
 -- What the rows report, against the published actions: tested at every stage, call and sight.
 use Rattle.std.proofs.Common.{◌≡◌, ℕ, Bool, true, false, cond, not, ◌&&◌, ◌||◌, eqb, leb, Some as some, None as none, Option, sym, refl, ap, ◌∙◌}
+use Rattle.std.proofs.lemmas.Bool.{eqb-true}
 use mathlib.Core.Bool.{beq}
 use Rattle.stages.specs.Names.{stage_no, is_idle, is_wait, is_alert_wait, is_sem, num, CallKind, action_no}
 use Rattle.stages.specs.Calls.{cond_of, elem, Request}
@@ -17,7 +18,7 @@ use Rattle.stages.specs.Table.OutcomeEffect.{keep_outcome, set_signalled, set_al
 use Rattle.stages.specs.declared.marks.Stands.TheVariants.{AtGate as at_gate, AtCondition as at_cond}
 use Rattle.stages.proofs.Finite.{table_at, imp, no}
 use Rattle.stages.specs.Pairs.{fits}
-use Rattle.runs.proofs.Small.{is_stand, eqb_eq}
+use Rattle.runs.proofs.Small.{is_stand}
 use Rattle.runs.proofs.Agree.{owns_now, is_quit, is_keep_gate, is_standing}
 use Rattle.runs.specs.Published.{set_waits, set_alert, Published, is_action, nexts, total, answers, is_finished, done_by, perform}
 use Rattle.nub.specs.Model.{signals, flags_new}
@@ -389,7 +390,7 @@ said_same : (t u : ℕ) (f : ℕ → Bool) → f u ≡ cond (eqb t u) (f t) (f u
 said_same t u f = go (eqb t u) refl
   where
     go : (b : Bool) → eqb t u ≡ b → f u ≡ cond b (f t) (f u)
-    go true e = ap f (sym (eqb_eq t u e))
+    go true e = ap f (sym (eqb-true t u e))
     go false e = refl
 
 choose_said : (w : Bool) (p q : Published) (u : ℕ) → p.said u ≡ q.said u → (cond w p q).said u ≡ q.said u
@@ -432,7 +433,7 @@ waits_choose p c t i u true h = refl
 waits_choose p c t i u false h = go (eqb c i) (eqb t u) refl refl
   where
     go : (a b : Bool) → eqb c i ≡ a → eqb t u ≡ b → p.waits i u ≡ cond (a && b) false (p.waits i u)
-    go true true e f = ap (λ (z : ℕ). p.waits z u) (sym (eqb_eq c i e)) ∙ ap (λ (z : ℕ). p.waits c z) (sym (eqb_eq t u f)) ∙ h
+    go true true e f = ap (λ (z : ℕ). p.waits z u) (sym (eqb-true c i e)) ∙ ap (λ (z : ℕ). p.waits c z) (sym (eqb-true t u f)) ∙ h
     go true false e f = refl
     go false b e f = refl
 

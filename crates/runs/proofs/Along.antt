@@ -1,7 +1,6 @@
 -- A run, entry by entry.
-use Rattle.std.proofs.Common.{◌≡◌, ℕ, ◌<◌, ◌≤◌, Bool, true, false, cond, ◌&&◌, ltb, leb, ◌⊎◌, List, [], ◌∷◌, ◌++◌, get_or, replicate, Some as some, None as none, Option, sym, refl, ap, ◌∙◌, subst, inl, inr, arith}
+use Rattle.std.proofs.Common.{◌≡◌, ℕ, ◌<◌, ◌≤◌, Bool, true, false, cond, ◌&&◌, leb, ◌⊎◌, List, [], ◌∷◌, ◌++◌, get_or, replicate, Some as some, None as none, Option, sym, refl, ap, ◌∙◌, subst, inl, inr, arith}
 use lib.ListN.{get_or-replicate, length-replicate}
-use Rattle.std.proofs.lemmas.Bool.{ltb-true, ltb-false}
 use Rattle.lines.specs.Kinds.{Kind as LineKind, Laws}
 use Rattle.thread.specs.Turns.{idle_thread, state_of}
 use Rattle.thread.specs.declared.record.Thread.{Thread}
@@ -11,6 +10,7 @@ use Rattle.nub.specs.Places.{at_line}
 use Rattle.nub.specs.View.{by_line, view, picks}
 use Rattle.runs.proofs.Forms.{Full, Sized}
 use Rattle.stages.proofs.Finite.{and_l, and_r}
+use Rattle.runs.proofs.Lists.{lt_or}
 use Rattle.runs.proofs.Small.{to_t}
 use Rattle.lines.specs.Lines.{Sound as LineSound}
 use Rattle.nub.specs.declared.Event.{Event}
@@ -102,13 +102,6 @@ pub along_end : (K : LineKind) (es : List Event) (as' : List Answer) (k : Core) 
 along_end K es as' k f h = record { accepted = h.accepted; reading = subst (λ (p : Published). Rattle.runs.specs.Reading.Holds p (view K k f)) (sym h.reads) (at_end (view K k f) h.sound.inv); marked = record { fitting = h.sound.inv.fit; standing = h.sound.inv.stood; spinning = h.sound.inv.spun } }
 
 -- a new nub
-lt_or : (a b : ℕ) → (a < b) ⊎ (b ≤ a)
-lt_or a b = go (ltb a b) refl
-  where
-    go : (z : Bool) → ltb a b ≡ z → (a < b) ⊎ (b ≤ a)
-    go true p = inl (ltb-true a b p)
-    go false p = inr (ltb-false a b p)
-
 same_all : {A : Type 0} (d : A) (m u : ℕ) → get_or (replicate m d) u d ≡ d
 same_all d m u = go (lt_or u m)
   where

@@ -1,5 +1,6 @@
 -- What the code needs beside the invariant: the objects of a call under way exist, and no count passes 32 bits.
 use Rattle.std.proofs.Common.{◌≡◌, ℕ, zero, suc, ◌+◌, ◌<◌, ◌≤◌, Bool, true, false, cond, not, ◌&&◌, ◌||◌, eqb, ltb, leb, List, Some as some, None as none, Option, sym, refl, ap, ◌∙◌, subst, arith}
+use Rattle.std.proofs.lemmas.Bool.{and_from, eq-eqb, eqb-true}
 use mathlib.Core.Bool.{beq}
 use Rattle.stages.specs.Names.{stage_no, call_no, is_idle, is_wait, num, CallKind, counted}
 use Rattle.stages.specs.Calls.{cond_of, elem, is_this}
@@ -14,7 +15,7 @@ use Rattle.nub.specs.declared.Event.TheVariants.{Submission as submission, Turn 
 use Rattle.runs.specs.Runs.{Picks}
 use Rattle.stages.proofs.Finite.{table_at, imp, imp_at, no, and_l, and_r}
 use Rattle.stages.specs.Pairs.{fits}
-use Rattle.runs.proofs.Small.{to_t, eqb_eq, eqb_same, and_in, clash}
+use Rattle.runs.proofs.Small.{to_t, clash}
 use Rattle.runs.proofs.Agree.{by_idle, idle_is, is_standing}
 use Rattle.runs.proofs.Inv.{Inv, Taken, by_sort, stands_is, is_taken, does_inv}
 use Rattle.runs.proofs.Submit.{Granted, is_granted, submitted_inv, built_inv, by_one, cond_none, not_some, not_out', checked_for}
@@ -62,7 +63,7 @@ tally_one f g t (suc n) h p = go (eqb t n) refl (λ q. tally_one f g t n h q)
     go : (b : Bool) → eqb t n ≡ b → (t < n → tally f n + num (g t) ≡ tally g n + num (f t))
         → num (f n) + tally f n + num (g t) ≡ num (g n) + tally g n + num (f t)
     go true e i =
-        let q : t ≡ n = eqb_eq t n e in
+        let q : t ≡ n = eqb-true t n e in
         let z : tally f n ≡ tally g n = tally_same f g t n h (omega arith) in
         let a : num (f n) ≡ num (f t) = ap (λ (u : ℕ). num (f u)) (sym q) in
         let b : num (g n) ≡ num (g t) = ap (λ (u : ℕ). num (g u)) (sym q) in
@@ -71,10 +72,6 @@ tally_one f g t (suc n) h p = go (eqb t n) refl (λ q. tally_one f g t n h q)
         let z : tally f n + num (g t) ≡ tally g n + num (f t) = i (off t n p e) in
         let a : num (f n) ≡ num (g n) = ap num (h n e) in
         omega arith
-
-tally_all : (f g : ℕ → Bool) (n : ℕ) → ((u : ℕ) → f u ≡ g u) → tally f n ≡ tally g n
-tally_all f g zero h = refl
-tally_all f g (suc n) h = let i : tally f n ≡ tally g n = tally_all f g n h in let e : num (f n) ≡ num (g n) = ap num (h n) in omega arith
 
 pub record Sound (s : NubState) : Type 0 where
   pub inv : Inv s
@@ -135,7 +132,7 @@ does_bound s t k inv busy tk bd c =
 
     moved_pend : pend_on c ((does s t (row_of s t) k).thread t) ≡ (pends (row_of s t).next && eqb (cond_of (s.thread t).call) c)
     moved_pend =
-        rw (eqb_same t)
+        rw (eq-eqb t t refl)
         (by_idle (λ n d. (pends n && eqb (cond_of d) c) ≡ (pends n && eqb (cond_of (s.thread t).call) c)) (row_of s t).next (s.thread t).call refl (λ b. refl))
 
     self : (does s t (row_of s t) k).counts c + num (pend_on c ((does s t (row_of s t) k).thread t)) ≡ s.counts c + num (pend_on c (s.thread t))
@@ -151,7 +148,7 @@ tally_has f t n p h =
     omega arith
   where
     gone : cond (eqb t t) false (f t) ≡ false
-    gone = rw (eqb_same t)
+    gone = rw (eq-eqb t t refl)
 
     same : (u : ℕ) → eqb t u ≡ false → f u ≡ cond (eqb t u) false (f u)
     same u e = rw e
@@ -162,8 +159,8 @@ sig_fits s t so busy w =
     let b : s.counts (cond_of (s.thread t).call) + tally (λ u. pend_on (cond_of (s.thread t).call) (s.thread u)) s.size ≤ 4294967295 = so.bound (cond_of (s.thread t).call) in
     let h : 1 ≤ tally (λ u. pend_on (cond_of (s.thread t).call) (s.thread u)) s.size =
     tally_has (λ u. pend_on (cond_of (s.thread t).call) (s.thread u)) t s.size (lib.Dec.ltb→lt t s.size (to_t (ltb t s.size) (so.inv.inside t busy)))
-    (and_in (pends (s.thread t).stage) (eqb (cond_of (s.thread t).call) (cond_of (s.thread t).call))
-    (was (pends (s.thread t).stage) (pends (row_of s t).next) (signals (row_of s t).line) (pend_ok (s.thread t).stage (s.thread t).call.kind (seen s t) (so.inv.fit t)) w) (eqb_same (cond_of (s.thread t).call))) in
+    (and_from (pends (s.thread t).stage) (eqb (cond_of (s.thread t).call) (cond_of (s.thread t).call))
+    (was (pends (s.thread t).stage) (pends (row_of s t).next) (signals (row_of s t).line) (pend_ok (s.thread t).stage (s.thread t).call.kind (seen s t) (so.inv.fit t)) w) (eq-eqb (cond_of (s.thread t).call) (cond_of (s.thread t).call) refl)) in
     omega arith
   where
     was : (b n w : Bool) → (beq b (n || w) && not (n && w)) ≡ true → w ≡ true → b ≡ true
@@ -228,7 +225,7 @@ submitted_sound s t k x y small so h =
         f = λ u. pend_on c ((submitted s t (record { kind = k; x = x; y = y })).thread u)
 
         at_t : f t ≡ pend_on c new
-        at_t = rw (eqb_same t)
+        at_t = rw (eq-eqb t t refl)
 
         same : (u : ℕ) → eqb t u ≡ false → f u ≡ pend_on c (s.thread u)
         same u e = rw e
@@ -248,7 +245,7 @@ submitted_sound s t k x y small so h =
             omega arith
         go true e =
             let p : counted k ≡ true = imp_at (pends (first k)) (counted k) (first_pend k) (and_l (pends (first k)) (eqb (cond (is_wait k) y x) c) e) in
-            let q : x ≡ c = sym (counted_x k x y p) ∙ eqb_eq (cond (is_wait k) y x) c (and_r (pends (first k)) (eqb (cond (is_wait k) y x) c) e) in
+            let q : x ≡ c = sym (counted_x k x y p) ∙ eqb-true (cond (is_wait k) y x) c (and_r (pends (first k)) (eqb (cond (is_wait k) y x) c) e) in
             let l : s.counts c < 4294967232 = subst (λ (z : ℕ). s.counts z < 4294967232) q (lo p) in
             let a : tally f s.size ≤ s.size = tally_le f s.size in
             omega arith

@@ -1,7 +1,7 @@
 -- One entry of a run: the arrays and lines after it read as the rules say.
 use Rattle.std.proofs.Common.{◌≡◌, ℕ, zero, suc, ◌+◌, ◌-◌, ◌^◌, ◌<◌, ◌≤◌, Bool, true, false, cond, not, ◌&&◌, ◌||◌, eqb, ltb, List, [], length, get_or, set, Some as some, None as none, Option, sym, refl, ap, ◌∙◌, subst, add-zero, suc-add, arith, length-set}
 use mathlib.Core.Bool.{and-false}
-use Rattle.std.proofs.lemmas.Bool.{ltb-true}
+use Rattle.std.proofs.lemmas.Bool.{ltb-true, eqb-true, not-true, not_from_false}
 use Rattle.lines.specs.Lines.{has, Sound as LineSound}
 use Rattle.lines.specs.Kinds.{Kind as LineKind, Laws, Picks as KindPicks}
 use Rattle.stages.specs.Calls.{Object, gate_of, cond_of, same_object, Request, request_of}
@@ -27,7 +27,7 @@ use Rattle.runs.proofs.Forms.{named_by, freed_at, mask_at, applied_by, Full, Siz
 use Rattle.nub.specs.Work.{kept_on, count_at, thread_at, worked_in, taken_in, with_threads}
 use Rattle.stages.proofs.Finite.{imp_at, no, and_l, and_r}
 use Rattle.stages.specs.Pairs.{fits}
-use Rattle.runs.proofs.Small.{eqb_eq, object_same, is_keep_line, is_stand, stands_pre, clash, not_in, not_out, stands_ok, stands_post}
+use Rattle.runs.proofs.Small.{object_same, is_keep_line, is_stand, stands_pre, clash, stands_ok, stands_post}
 use Rattle.runs.specs.Reading.{stands_by}
 use Rattle.runs.proofs.Agree.{is_keep_gate, wakes, line_ok, by_idle, idle_is}
 use Rattle.nub.proofs.Taken.{mask_step, mask_ext}
@@ -63,7 +63,7 @@ named_th clear_own x l u h = refl
 named_th set_named x l u h = ap state_of (list_set idle_thread l x (flagged (get_or l x idle_thread)) u (h refl)) ∙ go (eqb x u) refl
   where
     go : (b : Bool) → eqb x u ≡ b → state_of (cond b (flagged (get_or l x idle_thread)) (get_or l u idle_thread)) ≡ state_of (get_or l u idle_thread)
-    go true p = ap (λ (z : ℕ). state_of (get_or l z idle_thread)) (eqb_eq x u p)
+    go true p = ap (λ (z : ℕ). state_of (get_or l z idle_thread)) (eqb-true x u p)
     go false p = refl
 
 alert_view : (e : FlagEffect) (t x : ℕ) (l : List Thread) (w : Thread) (u : ℕ) → t < length l → (is_named e ≡ true → x < length l) → w.alert ≡ own_flag e (get_or l t idle_thread).alert
@@ -71,7 +71,7 @@ alert_view : (e : FlagEffect) (t x : ℕ) (l : List Thread) (w : Thread) (u : �
 alert_view e t x l w u h n q = go e n q
   where
     kept : (b : Bool) → eqb t u ≡ b → w.alert ≡ (get_or l t idle_thread).alert → (cond b w (get_or l u idle_thread)).alert ≡ (get_or l u idle_thread).alert
-    kept true p q = q ∙ ap (λ (z : ℕ). (get_or l z idle_thread).alert) (eqb_eq t u p)
+    kept true p q = q ∙ ap (λ (z : ℕ). (get_or l z idle_thread).alert) (eqb-true t u p)
     kept false p q = refl
 
     same : w.alert ≡ (get_or l t idle_thread).alert → (get_or (set l t w) u idle_thread).alert ≡ (get_or l u idle_thread).alert
@@ -199,7 +199,7 @@ module _ (K : LineKind) (laws : Laws K) (k : Core) (f : K.State) (full : Full k)
   ex = so.ranged t busy
 
   gate! : is_keep_gate R.gate ≡ false → in_range (gate_of C) ≡ true
-  gate! h = gate_range S C fit.mutexes! fit.semaphores! ex (imp_at (not (is_keep_gate R.gate) || uses_gate E) (has_gate C.kind) (gate_has (thread_at k t).stage C.kind (seen S t) fit_now) (or_l (not (is_keep_gate R.gate)) (uses_gate E) (not_in (is_keep_gate R.gate) h)))
+  gate! h = gate_range S C fit.mutexes! fit.semaphores! ex (imp_at (not (is_keep_gate R.gate) || uses_gate E) (has_gate C.kind) (gate_has (thread_at k t).stage C.kind (seen S t) fit_now) (or_l (not (is_keep_gate R.gate)) (uses_gate E) (not_from_false (is_keep_gate R.gate) h)))
 
   gate_l! : uses_gate E ≡ true → in_range (gate_of C) ≡ true
   gate_l! h = gate_range S C fit.mutexes! fit.semaphores! ex (imp_at (not (is_keep_gate R.gate) || uses_gate E) (has_gate C.kind) (gate_has (thread_at k t).stage C.kind (seen S t) fit_now) (or_r (not (is_keep_gate R.gate)) (uses_gate E) h))
@@ -315,10 +315,10 @@ module _ (K : LineKind) (laws : Laws K) (k : Core) (f : K.State) (full : Full k)
   point h n = ap (λ (b : Bool). b || kept_on K2 (cond_of C) N n) (ap (has n) us_is) ∙ ap (λ (b : Bool). has n UT || b) (go (eqb t n) refl (Y n))
     where
       was : is_between (thread_at k t).stage C.kind ≡ false
-      was = not_out (is_between (thread_at k t).stage C.kind) (and_l (not (is_between (thread_at k t).stage C.kind)) (not (is_between R.next C.kind)) (apart! h))
+      was = not-true (is_between (thread_at k t).stage C.kind) (and_l (not (is_between (thread_at k t).stage C.kind)) (not (is_between R.next C.kind)) (apart! h))
 
       then : is_between M.stage M.call.kind ≡ false
-      then = by_idle (λ st d. is_between st d.kind ≡ false) R.next C refl (λ b. not_out (is_between R.next C.kind) (and_r (not (is_between (thread_at k t).stage C.kind)) (not (is_between R.next C.kind)) (apart! h)))
+      then = by_idle (λ st d. is_between st d.kind ≡ false) R.next C refl (λ b. not-true (is_between R.next C.kind) (and_r (not (is_between (thread_at k t).stage C.kind)) (not (is_between R.next C.kind)) (apart! h)))
 
       on : ThreadState → Bool
       on x = between_on x (cond_of C) && eqb x.kept N
@@ -330,7 +330,7 @@ module _ (K : LineKind) (laws : Laws K) (k : Core) (f : K.State) (full : Full k)
           → kept_on K2 (cond_of C) N n ≡ (between_on (state_of (get_or k.threads n idle_thread)) (cond_of C) && eqb (state_of (get_or k.threads n idle_thread)).kept N)
       go true p y =
           ap (λ (x : ThreadState). between_on x (cond_of C) && eqb x.kept N) y ∙ off M then
-          ∙ sym (off (state_of (get_or k.threads n idle_thread)) (subst (λ (z : ℕ). is_between (thread_at k z).stage (request_of (thread_at k z).call).kind ≡ false) (eqb_eq t n p) was))
+          ∙ sym (off (state_of (get_or k.threads n idle_thread)) (subst (λ (z : ℕ). is_between (thread_at k z).stage (request_of (thread_at k z).call).kind ≡ false) (eqb-true t n p) was))
       go false p y = ap (λ (x : ThreadState). between_on x (cond_of C) && eqb x.kept N) y
 
   past : (u : ℕ) → k.sizes.threads ≤ u → freed_by S (cond_of C) UT u ≡ false

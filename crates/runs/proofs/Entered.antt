@@ -1,6 +1,6 @@
 -- One entry of a run, granted or declined: its answer and what it leaves are those of the rules.
 use Rattle.std.proofs.Common.{◌≡◌, ℕ, ◌+◌, ◌%◌, ◌^◌, ◌<◌, ◌≤◌, Bool, true, false, cond, not, ◌||◌, eqb, ltb, List, length, get_or, set, Some as some, None as none, Option, sym, refl, ap, ◌∙◌, subst, arith, length-set}
-use Rattle.std.proofs.lemmas.Bool.{ltb-true, ltb-false, or_right}
+use Rattle.std.proofs.lemmas.Bool.{ltb-true, ltb-false, or_right, eqb-true}
 use Rattle.lines.specs.Kinds.{Kind as LineKind, Laws}
 use Rattle.stages.specs.Calls.{Object, gate_of, cond_of, Request, request_of}
 use Rattle.stages.specs.Names.{is_idle, num}
@@ -22,12 +22,11 @@ use Rattle.nub.specs.View.{view, picks}
 use Rattle.nub.specs.Work.{bits_l, wake_from, count_at, thread_at, taken_in, with_threads, set_at}
 use Rattle.runs.proofs.Forms.{owners_by, named_by, freed_at, applied_by, performed_by, Full, Sized}
 use Rattle.nub.specs.Turn.{turned, reports, refused, Moved, moves, verdict_in, answer_in, call_by, sight_of}
-use Rattle.runs.proofs.Small.{eqb_eq}
 use Rattle.lines.specs.Lines.{Sound as LineSound}
 use Rattle.nub.specs.declared.Event.{Event}
 use Rattle.nub.specs.declared.Event.TheVariants.{Submission as submission, Turn as turn}
 use Rattle.nub.specs.declared.Answer.TheVariants.{Granted as granted, Declined as declined, Reported as reported}
-use Rattle.nub.proofs.Turned.{turned_out, turned_idle}
+use Rattle.runs.proofs.Turned.{turned_out, turned_idle}
 use Rattle.runs.proofs.Placed.{turned_busy, request_by_lem, cond_some, gate_line_lem, line_by, row_same}
 use Rattle.runs.specs.Granted.{LineGranted, JoinGranted, LeaveGranted, TakeGranted, AskGranted, Room, CountFits, TurnGranted, EventGranted}
 use Rattle.runs.proofs.Ranges.{uses_gate, uses_cond, gate_has, cond_has, reads_has, line_low}
@@ -54,7 +53,7 @@ started_alert : (l : List Thread) (t : ℕ) (c : Option Call) (u : ℕ) → t < 
 started_alert l t c u h = ap (λ (z : Thread). z.alert) (list_set idle_thread l t (started c (get_or l t idle_thread)) u h) ∙ go (eqb t u) refl
   where
     go : (b : Bool) → eqb t u ≡ b → (cond b (started c (get_or l t idle_thread)) (get_or l u idle_thread)).alert ≡ (get_or l u idle_thread).alert
-    go true p = ap (λ (z : ℕ). (get_or l z idle_thread).alert) (eqb_eq t u p)
+    go true p = ap (λ (z : ℕ). (get_or l z idle_thread).alert) (eqb-true t u p)
     go false p = refl
 
 -- what an entry gives

@@ -1,5 +1,6 @@
 -- The invariant, and that a turn keeps it.
 use Rattle.std.proofs.Common.{◌≡◌, ℕ, suc, ◌≤◌, Bool, true, false, cond, not, ◌&&◌, ◌||◌, eqb, ltb, List, [], ◌∷◌, Some as some, None as none, Option, sym, refl, ap, ◌∙◌, subst, arith}
+use Rattle.std.proofs.lemmas.Bool.{and_from, eq-eqb, eqb-true, not-true, not_from_false}
 use Rattle.stages.specs.Calls.{Object, gate_of, cond_of, same_object, elem, is_empty, is_some, Request, no_call}
 use Rattle.stages.specs.Names.{is_idle, is_alert_wait, is_sem, CallKind}
 use Rattle.stages.specs.declared.stage.Stage.{Stage}
@@ -22,7 +23,7 @@ use Rattle.runs.specs.Runs.{Member, Picks}
 use Rattle.runs.specs.Reading.{on_way}
 use Rattle.stages.proofs.Finite.{imp, imp_at, no, and_l, and_r}
 use Rattle.stages.specs.Pairs.{fits}
-use Rattle.runs.proofs.Small.{eqb_eq, eqb_same, eqb_of, same_object_lem, in_new, elem_new, stands_ok, stood_self, is_stand, and_in, not_in, or_else, not_out, clash}
+use Rattle.runs.proofs.Small.{same_object_lem, in_new, elem_new, stands_ok, stood_self, is_stand, or_else, clash}
 use Rattle.runs.specs.Reading.{stands_by}
 use Rattle.runs.proofs.Agree.{fit_ok, line_ok, spin_ok_lem, wake_spin, own_ok, take_ok, free_ok, quit_ok, kept_ok, way_free, way_join, way_keep, rest_way, rest_gate, rest_cond, idle_stands, by_idle, wakes, spin_ok, is_keep_gate, is_keep_flag, is_standing, owns_now, is_quit}
 
@@ -113,7 +114,7 @@ does_stood s t r k st ok tk o u =
     self : eqb t u ≡ true → cond (same_object L o) (in_new r.line (eqb t u) (elem u k) X) X ≡ stands_at (moved r (s.counts (cond_of (s.thread t).call)) (s.thread t)) o
     self p =
         ap (λ (z : Bool). cond (same_object L o) (in_new r.line z (elem u k) X) X) p
-        ∙ ap (λ (z : ℕ). cond (same_object L o) (in_new r.line true (elem u k) (stands_at (s.thread z) o)) (stands_at (s.thread z) o)) (sym (eqb_eq t u p))
+        ∙ ap (λ (z : ℕ). cond (same_object L o) (in_new r.line true (elem u k) (stands_at (s.thread z) o)) (stands_at (s.thread z) o)) (sym (eqb-true t u p))
         ∙ stood_self r.line (marks (s.thread t).stage).line (marks r.next).line (s.thread t).call o (elem u k) ok
         ∙ sym (idle_stands r.next (s.thread t).call no_call o)
 
@@ -163,14 +164,14 @@ does_spun s t r k sp ok tk = (
   where
     self : (u : ℕ) → eqb t u ≡ true → (marks r.next).spin ≡ (spin_new r.spin s.spin && spin_who r.spin (eqb sp.0 u) (eqb t u))
     self u p =
-        rw p (subst (λ (z : ℕ). (marks r.next).spin ≡ (spin_new r.spin s.spin && spin_who r.spin (eqb sp.0 z) true)) (eqb_eq t u p)
+        rw p (subst (λ (z : ℕ). (marks r.next).spin ≡ (spin_new r.spin s.spin && spin_who r.spin (eqb sp.0 z) true)) (eqb-true t u p)
         (spin_self r.spin (marks (s.thread t).stage).spin (marks r.next).spin s.spin (eqb sp.0 t) ok (sp.1 t)))
 
     rest : (u : ℕ) → eqb t u ≡ false → (marks (s.thread u).stage).spin ≡ (spin_new r.spin s.spin && spin_who r.spin (eqb sp.0 u) (eqb t u))
     rest u p =
         sp.1 u
         ∙ spin_rest r.spin (marks (s.thread t).stage).spin (marks r.next).spin s.spin (eqb sp.0 t) (eqb sp.0 u) (eqb t u) ok (sp.1 t)
-        (λ e. ap (λ (z : ℕ). eqb z u) (eqb_eq sp.0 t e)) p
+        (λ e. ap (λ (z : ℕ). eqb z u) (eqb-true sp.0 t e)) p
 
 -- the call at its stage
 abbrev pub wake_mark : LineEffect → Stands
@@ -195,13 +196,13 @@ woken_fit join_cond st k v w m p f = no w
 woken_fit leave_cond st k v w m p f = no w
 woken_fit wake_gate st k v w m p f =
     imp_at (is_stand at_gate (marks st).line && not (marks st).spin) (fits Try k) (rest_gate st k v f)
-    (and_in (is_stand at_gate (marks st).line) (not (marks st).spin) m (not_in (marks st).spin p))
+    (and_from (is_stand at_gate (marks st).line) (not (marks st).spin) m (not_from_false (marks st).spin p))
 woken_fit signal_one st k v w m p f =
     imp_at (is_stand at_cond (marks st).line && not (marks st).spin) (fits (cond (is_alert_wait k) Choose Try) k) (rest_cond st k v f)
-    (and_in (is_stand at_cond (marks st).line) (not (marks st).spin) m (not_in (marks st).spin p))
+    (and_from (is_stand at_cond (marks st).line) (not (marks st).spin) m (not_from_false (marks st).spin p))
 woken_fit signal_all st k v w m p f =
     imp_at (is_stand at_cond (marks st).line && not (marks st).spin) (fits (cond (is_alert_wait k) Choose Try) k) (rest_cond st k v f)
-    (and_in (is_stand at_cond (marks st).line) (not (marks st).spin) m (not_in (marks st).spin p))
+    (and_from (is_stand at_cond (marks st).line) (not (marks st).spin) m (not_from_false (marks st).spin p))
 
 pub does_fit : (s : NubState) (t : ℕ) (r : Row) (k : List ℕ)
     → ((u : ℕ) → fits (s.thread u).stage (s.thread u).call.kind ≡ true)
@@ -228,7 +229,7 @@ pub does_inside : (s : NubState) (t : ℕ) (r : Row) (k : List ℕ)
 does_inside s t r k ins busy tk u =
     by_sort (λ h. is_idle h.stage ≡ false → ltb u s.size ≡ true) (eqb t u) (elem u k)
     (moved r (s.counts (cond_of (s.thread t).call)) (s.thread t)) (woken r.line (s.thread u)) (s.thread u)
-    (λ p i. subst (λ (z : ℕ). ltb z s.size ≡ true) (eqb_eq t u p) (ins t busy))
+    (λ p i. subst (λ (z : ℕ). ltb z s.size ≡ true) (eqb-true t u p) (ins t busy))
     (λ p q i. ins u (stood_busy (s.thread u).stage (s.thread u).call (line_at r.line (s.thread t).call) (tk u q).stands!))
     (λ p q i. ins u i)
 
@@ -275,7 +276,7 @@ does_quits s t r k qu ok u =
     (λ p i.
     let j : ((is_quit (s.thread t).stage || s.flags t) && is_keep_flag r.flag) ≡ true = imp_at (is_quit r.next) ((is_quit (s.thread t).stage || s.flags t) && is_keep_flag r.flag) ok i in
     flag_self r.flag t (s.thread t).call.x s.flags u (and_r (is_quit (s.thread t).stage || s.flags t) (is_keep_flag r.flag) j)
-    (subst (λ (z : ℕ). s.flags z ≡ true) (eqb_eq t u p)
+    (subst (λ (z : ℕ). s.flags z ≡ true) (eqb-true t u p)
     (or_both (is_quit (s.thread t).stage) (s.flags t) (s.flags t) (and_l (is_quit (s.thread t).stage || s.flags t) (is_keep_flag r.flag) j) (qu t) (λ e. e))))
     (λ p q i. clash i (woken_quit r.line (s.thread u).call.kind))
     (λ p q i. flag_rest r.flag t (s.thread t).call.x s.flags u p (qu u i))
@@ -319,7 +320,7 @@ gate_x c m h = go (is_sem c.kind) h
   where
     go : (b : Bool) → same_object (cond b (semaphore c.x) (mutex c.x)) (mutex m) ≡ true → c.x ≡ m
     go true e = no e
-    go false e = eqb_eq c.x m e
+    go false e = eqb-true c.x m e
 
 pub does_owner : (s : NubState) (t : ℕ) (r : Row) (k : List ℕ)
     → ((m : ℕ) → s.bits (mutex m) ≡ is_some (s.owners m))
@@ -338,7 +339,7 @@ does_owner s t r k od ow ok tak fre u =
     let j : (owns_now (s.thread t).stage (s.thread t).call.kind && is_keep_gate r.gate) ≡ true = imp_at (owns_now r.next (s.thread t).call.kind) (owns_now (s.thread t).stage (s.thread t).call.kind && is_keep_gate r.gate) ok i in
     self r.gate (and_r (owns_now (s.thread t).stage (s.thread t).call.kind) (is_keep_gate r.gate) j)
     ∙ ow t (and_l (owns_now (s.thread t).stage (s.thread t).call.kind) (is_keep_gate r.gate) j)
-    ∙ ap some (eqb_eq t u p)))
+    ∙ ap some (eqb-true t u p)))
     (λ p q i. clash i (woken_owns r.line (s.thread u).call.kind))
     (λ p q i. rest p (ow u i) r.gate (same_object (gate_of (s.thread t).call) (mutex (s.thread u).call.x)) refl tak fre)
   where
@@ -353,12 +354,12 @@ does_owner s t r k od ow ok tak fre u =
         → owners_new e t (gate_of (s.thread t).call) s.owners (s.thread u).call.x ≡ some u
     rest p h keep_gate b q f g = h
     rest p h take_gate true q f g =
-        clash (od (s.thread u).call.x ∙ ap is_some h) (subst (λ (z : Object). s.bits z ≡ false) (same_object_lem (gate_of (s.thread t).call) (mutex (s.thread u).call.x) q) (not_out (s.bits (gate_of (s.thread t).call)) f))
+        clash (od (s.thread u).call.x ∙ ap is_some h) (subst (λ (z : Object). s.bits z ≡ false) (same_object_lem (gate_of (s.thread t).call) (mutex (s.thread u).call.x) q) (not-true (s.bits (gate_of (s.thread t).call)) f))
     rest p h take_gate false q f g = rw q h
     rest p h free_gate true q f g =
         let o : owns_now (s.thread t).stage (s.thread t).call.kind ≡ true = or_else (is_sem (s.thread t).call.kind) (owns_now (s.thread t).stage (s.thread t).call.kind) g (gate_mut (s.thread t).call (s.thread u).call.x q) in
         let x : (s.thread t).call.x ≡ (s.thread u).call.x = gate_x (s.thread t).call (s.thread u).call.x q in
-        clash (eqb_of t u (some_inj t u (sym (ow t o) ∙ ap s.owners x ∙ h))) p
+        clash (eq-eqb t u (some_inj t u (sym (ow t o) ∙ ap s.owners x ∙ h))) p
     rest p h free_gate false q f g = rw q h
 
 pub does_elem : (s : NubState) (t : ℕ) (r : Row) (k : List ℕ) (o : Object) (u : ℕ)
@@ -373,7 +374,7 @@ sub_line e c o b k x g h p = grind arith
 
 -- what a turn leaves of the thread w
 pub does_self : (s : NubState) (t : ℕ) (r : Row) (k : List ℕ) → (does s t r k).thread t ≡ moved r (s.counts (cond_of (s.thread t).call)) (s.thread t)
-does_self s t r k = rw (eqb_same t)
+does_self s t r k = rw (eq-eqb t t refl)
 
 pub does_woken : (s : NubState) (t : ℕ) (r : Row) (k : List ℕ) (u : ℕ) → eqb t u ≡ false → elem u k ≡ true → (does s t r k).thread u ≡ woken r.line (s.thread u)
 does_woken s t r k u p q = rw (p, q)
@@ -386,7 +387,7 @@ self_way : (s : NubState) (t : ℕ) (r : Row) (k : List ℕ) (o : Object) → (m
 self_way s t r k o w g =
     rw (does_self s t r k)
     (by_idle (λ n c. (marks n).way ≡ true → ((marks n).way && same_object (gate_of c) o) ≡ true) r.next (s.thread t).call (λ i. no i)
-    (λ b i. and_in (marks r.next).way (same_object (gate_of (s.thread t).call) o) i g) w)
+    (λ b i. and_from (marks r.next).way (same_object (gate_of (s.thread t).call) o) i g) w)
 
 -- a thread on its way stays so, but for the acting one
 carry : (s : NubState) (t : ℕ) (r : Row) (k : List ℕ) (o : Object)
@@ -398,16 +399,16 @@ carry s t r k o ft tk hs w h = go (eqb t w) (elem w k) refl refl
   where
     go : (a b : Bool) → eqb t w ≡ a → elem w k ≡ b → (z : ℕ) × (on_way ((does s t r k).thread z) o ≡ true)
     go true b p q =
-        let h' : on_way (s.thread t) o ≡ true = subst (λ (z : ℕ). on_way (s.thread z) o ≡ true) (sym (eqb_eq t w p)) h in
+        let h' : on_way (s.thread t) o ≡ true = subst (λ (z : ℕ). on_way (s.thread z) o ≡ true) (sym (eqb-true t w p)) h in
         (t, self_way s t r k o (hs h') (and_r (marks (s.thread t).stage).way (same_object (gate_of (s.thread t).call) o) h'))
     go false true p q =
         clash (and_l (marks (s.thread w).stage).way (same_object (gate_of (s.thread w).call) o) h)
-        (not_out (marks (s.thread w).stage).way
+        (not-true (marks (s.thread w).stage).way
         (imp_at (is_standing (marks (s.thread w).stage).line && not (marks (s.thread w).stage).spin) (not (marks (s.thread w).stage).way)
         (rest_way (s.thread w).stage (s.thread w).call.kind (seen s w) (ft w))
-        (and_in (is_standing (marks (s.thread w).stage).line) (not (marks (s.thread w).stage).spin)
+        (and_from (is_standing (marks (s.thread w).stage).line) (not (marks (s.thread w).stage).spin)
         (stands_is (marks (s.thread w).stage).line (s.thread w).call (line_at r.line (s.thread t).call) (tk w q).stands!)
-        (not_in (marks (s.thread w).stage).spin (tk w q).rests!))))
+        (not_from_false (marks (s.thread w).stage).spin (tk w q).rests!))))
     go false false p q = (w, rw (does_rest s t r k w p q) h)
 
 woken_way : (e : LineEffect) (m : Stands) (c d : Request) (o : Object) (k : CallKind) → is_wake_gate e ≡ true → stands_by m d (line_at e c) ≡ true → same_object (gate_of c) o ≡ true
@@ -472,14 +473,14 @@ does_way s t r k ft wy tk wk fre joi kee o g b u h =
         let x : (w : ℕ) × (on_way (s.thread w) o ≡ true) = wy o g c u i in
         carry s t r k o ft tk
         (λ y. imp_at ((marks (s.thread t).stage).way && not (s.bits G) && is_keep_gate r.gate && not (is_wake_gate r.line) && not (is_empty (s.line G))) (marks r.next).way kee
-        (and_in ((marks (s.thread t).stage).way && not (s.bits G) && is_keep_gate r.gate && not (is_wake_gate r.line)) (not (is_empty (s.line G)))
-        (and_in ((marks (s.thread t).stage).way && not (s.bits G) && is_keep_gate r.gate) (not (is_wake_gate r.line))
-        (and_in ((marks (s.thread t).stage).way && not (s.bits G)) (is_keep_gate r.gate)
-        (and_in (marks (s.thread t).stage).way (not (s.bits G))
+        (and_from ((marks (s.thread t).stage).way && not (s.bits G) && is_keep_gate r.gate && not (is_wake_gate r.line)) (not (is_empty (s.line G)))
+        (and_from ((marks (s.thread t).stage).way && not (s.bits G) && is_keep_gate r.gate) (not (is_wake_gate r.line))
+        (and_from ((marks (s.thread t).stage).way && not (s.bits G)) (is_keep_gate r.gate)
+        (and_from (marks (s.thread t).stage).way (not (s.bits G))
         (and_l (marks (s.thread t).stage).way (same_object G o) y)
-        (not_in (s.bits G) (subst (λ (z : Object). s.bits z ≡ false) (sym (same_object_lem G o p)) c)))
-        n) (not_in (is_wake_gate r.line) f))
-        (not_in (is_empty (s.line G)) (empty_no (s.line G) u (subst (λ (z : Object). elem u (s.line z) ≡ true) (sym (same_object_lem G o p)) i)))))
+        (not_from_false (s.bits G) (subst (λ (z : Object). s.bits z ≡ false) (sym (same_object_lem G o p)) c)))
+        n) (not_from_false (is_wake_gate r.line) f))
+        (not_from_false (is_empty (s.line G)) (empty_no (s.line G) u (subst (λ (z : Object). elem u (s.line z) ≡ true) (sym (same_object_lem G o p)) i)))))
         x.0 x.1
 
     by_gate : same_object G o ≡ true → (e : GateEffect) → r.gate ≡ e → bits_new e G s.bits o ≡ false → (z : ℕ) × (on_way ((does s t r k).thread z) o ≡ true)
@@ -501,9 +502,9 @@ taken_in_lem leave_gate p l m u h = no h
 taken_in_lem join_cond p l m u h = no h
 taken_in_lem leave_cond p l m u h = no h
 taken_in_lem wake_gate none l m u h = no h
-taken_in_lem wake_gate (some x) l m u h = (refl, subst (λ (z : ℕ). elem z l ≡ true) (eqb_eq x u (sym (mathlib.Core.Bool.or-false (eqb x u)) ∙ h)) m)
+taken_in_lem wake_gate (some x) l m u h = (refl, subst (λ (z : ℕ). elem z l ≡ true) (eqb-true x u (sym (mathlib.Core.Bool.or-false (eqb x u)) ∙ h)) m)
 taken_in_lem signal_one none l m u h = no h
-taken_in_lem signal_one (some x) l m u h = (refl, subst (λ (z : ℕ). elem z l ≡ true) (eqb_eq x u (sym (mathlib.Core.Bool.or-false (eqb x u)) ∙ h)) m)
+taken_in_lem signal_one (some x) l m u h = (refl, subst (λ (z : ℕ). elem z l ≡ true) (eqb-true x u (sym (mathlib.Core.Bool.or-false (eqb x u)) ∙ h)) m)
 taken_in_lem signal_all p l m u h = (refl, h)
 
 -- a take from a line that has a member takes one
@@ -514,9 +515,9 @@ taken_one leave_gate p l m k u h = no k
 taken_one join_cond p l m k u h = no k
 taken_one leave_cond p l m k u h = no k
 taken_one wake_gate none l m k u h = no (ap (elem u) (sym m) ∙ h)
-taken_one wake_gate (some x) l m k u h = (x, rw (eqb_same x))
+taken_one wake_gate (some x) l m k u h = (x, rw (eq-eqb x x refl))
 taken_one signal_one none l m k u h = no (ap (elem u) (sym m) ∙ h)
-taken_one signal_one (some x) l m k u h = (x, rw (eqb_same x))
+taken_one signal_one (some x) l m k u h = (x, rw (eq-eqb x x refl))
 taken_one signal_all p l m k u h = (u, h)
 
 wakes_nowhere : (e : LineEffect) (m n : Stands) (c : Request) (o : Object) → wakes e ≡ true → stands_ok e m n ≡ true → stands_by m c o ≡ false
@@ -556,7 +557,7 @@ is_taken s t pick inv pk u h = record { wakes! = a.0; stands! = st; other! = ot;
       where
         go : (b : Bool) → eqb t u ≡ b → b ≡ false
         go true p =
-            clash (subst (λ (z : ℕ). stands_at (s.thread z) L ≡ true) (sym (eqb_eq t u p)) st)
+            clash (subst (λ (z : ℕ). stands_at (s.thread z) L ≡ true) (sym (eqb-true t u p)) st)
             (wakes_nowhere e (marks (s.thread t).stage).line (marks (row_of s t).next).line (s.thread t).call L a.0
             (line_ok (s.thread t).stage (s.thread t).call.kind (seen s t) (inv.fit t)))
         go false p = refl
@@ -565,7 +566,7 @@ is_taken s t pick inv pk u h = record { wakes! = a.0; stands! = st; other! = ot;
     re =
         rests_lem (marks (s.thread t).stage).spin (marks (s.thread u).stage).spin s.spin (eqb inv.spun.0 t) (eqb inv.spun.0 u) (eqb t u)
         (imp_at (wakes e) (marks (s.thread t).stage).spin (wake_spin (s.thread t).stage (s.thread t).call.kind (seen s t) (inv.fit t)) a.0)
-        (inv.spun.1 t) (inv.spun.1 u) (λ p. ap (λ (z : ℕ). eqb z u) (eqb_eq inv.spun.0 t p)) ot
+        (inv.spun.1 t) (inv.spun.1 u) (λ p. ap (λ (z : ℕ). eqb z u) (eqb-true inv.spun.0 t p)) ot
 
 pub does_inv : (s : NubState) (t : ℕ) (pick : Pick) → Inv s → Picks s pick → is_idle (s.thread t).stage ≡ false → Inv (does s t (row_of s t) (taken_of s t (row_of s t) pick))
 does_inv s t pick inv pk busy =

@@ -1,6 +1,6 @@
 -- Lines of any kind stay sound, by the laws alone; so a run conforms over any kind that keeps them.
 use Rattle.std.proofs.Common.{◌≡◌, ℕ, zero, suc, ◌<◌, ◌≤◌, Bool, true, false, cond, not, ◌||◌, eqb, ltb, ◌⊎◌, List, [], ◌∷◌, ◌++◌, length, Some as some, None as none, Ok, Err, Option, Result, sym, refl, ap, ◌∙◌, subst, inl, inr, append_assoc, append-nil, arith}
-use Rattle.std.proofs.lemmas.Bool.{ltb-true}
+use Rattle.std.proofs.lemmas.Bool.{ltb-true, and_from, eqb-true, not-true, not_from_false}
 use Rattle.lines.specs.Lines.{has, put, minus, Lines, Sound as LineSound, lines, stands, distinct, after as after_in, without as without1}
 use Rattle.lines.specs.Kinds.{Kind as LineKind, Laws}
 use Rattle.thread.specs.Turns.{step_after}
@@ -16,7 +16,7 @@ use Rattle.runs.specs.Granted.{AllGranted}
 use Rattle.runs.proofs.Entered.{entered, event_granted}
 use Rattle.nub.specs.Build.{built_sizes}
 use Rattle.stages.proofs.Finite.{no, and_l, and_r}
-use Rattle.runs.proofs.Small.{eqb_eq, clash, and_in, not_in, not_out, elem_join}
+use Rattle.runs.proofs.Small.{clash, elem_join}
 use Rattle.nub.specs.declared.Event.{Event}
 use Rattle.nub.specs.declared.Event.TheVariants.{Submission as submission, Turn as turn}
 use Rattle.nub.specs.declared.Answer.{Answer}
@@ -40,13 +40,13 @@ put_small n f l xs s d h = shrunk n f (put f l xs) s (λ k. one k (eqb l k)) (λ
     one k false = s.once k
 
     two : (k t : ℕ) (b : Bool) → eqb l k ≡ b → has t (cond b xs (f k)) ≡ true → has t (f k) ≡ true
-    two k t true e p = subst (λ (z : ℕ). has t (f z) ≡ true) (eqb_eq l k e) (h t p)
+    two k t true e p = subst (λ (z : ℕ). has t (f z) ≡ true) (eqb-true l k e) (h t p)
     two k t false e p = p
 
 distinct_join : (t : ℕ) (xs : List ℕ) → distinct xs ≡ true → has t xs ≡ false → distinct (xs ++ (t ∷ [])) ≡ true
 distinct_join t [] d h = refl
 distinct_join t (x ∷ xs) d h =
-    and_in (not (has x (xs ++ (t ∷ [])))) (distinct (xs ++ (t ∷ []))) (not_in (has x (xs ++ (t ∷ []))) (elem_join x t xs ∙ both (has x xs) (eqb t x) (not_out (has x xs) (and_l (not (has x xs)) (distinct xs) d)) (other (eqb x t) (has t xs) h)))
+    and_from (not (has x (xs ++ (t ∷ [])))) (distinct (xs ++ (t ∷ []))) (not_from_false (has x (xs ++ (t ∷ []))) (elem_join x t xs ∙ both (has x xs) (eqb t x) (not-true (has x xs) (and_l (not (has x xs)) (distinct xs) d)) (other (eqb x t) (has t xs) h)))
     (distinct_join t xs (and_r (not (has x xs)) (distinct xs) d) (right (eqb x t) (has t xs) h))
   where
     both : (a b : Bool) → a ≡ false → b ≡ false → (a || b) ≡ false
@@ -73,7 +73,7 @@ joined f l t k u h = go (eqb l k) refl h
   where
     last : (a b : Bool) → has u (f l) ≡ a → eqb t u ≡ b → (a || b) ≡ true → (has u (f l) ≡ true) ⊎ (t ≡ u)
     last true b p q e = inl p
-    last false true p q e = inr (eqb_eq t u q)
+    last false true p q e = inr (eqb-true t u q)
     last false false p q e = no e
 
     move : l ≡ k → (has u (f l) ≡ true) ⊎ (t ≡ u) → (has u (f k) ≡ true) ⊎ ((l ≡ k) × (t ≡ u))
@@ -81,7 +81,7 @@ joined f l t k u h = go (eqb l k) refl h
     move e (inr q) = inr (e, q)
 
     go : (b : Bool) → eqb l k ≡ b → has u (cond b (f l ++ (t ∷ [])) (f k)) ≡ true → (has u (f k) ≡ true) ⊎ ((l ≡ k) × (t ≡ u))
-    go true e p = move (eqb_eq l k e) (last (has u (f l)) (eqb t u) refl refl (sym (elem_join u t (f l)) ∙ p))
+    go true e p = move (eqb-true l k e) (last (has u (f l)) (eqb t u) refl refl (sym (elem_join u t (f l)) ∙ p))
     go false e p = inl p
 
 put_more : (n : ℕ) (f : Lines) (l t : ℕ) → LineSound n f → l < 48 → t < n → ((k : ℕ) → has t (f k) ≡ false) → LineSound n (put f l (f l ++ (t ∷ [])))
@@ -131,7 +131,7 @@ not_standing f t (suc n) h k p = go (eqb k n) refl (λ q. not_standing f t n (ri
     less e = grind arith
 
     go : (b : Bool) → eqb k n ≡ b → (k < n → has t (f k) ≡ false) → has t (f k) ≡ false
-    go true e ih = subst (λ (z : ℕ). has t (f z) ≡ false) (sym (eqb_eq k n e)) (left (has t (f n)) (stands n f t) h)
+    go true e ih = subst (λ (z : ℕ). has t (f z) ≡ false) (sym (eqb-true k n e)) (left (has t (f n)) (stands n f t) h)
     go false e ih = ih (less e)
 
 nowhere_at_all : (n : ℕ) (f : Lines) (t : ℕ) → LineSound n f → stands lines f t ≡ false → (k : ℕ) → has t (f k) ≡ false

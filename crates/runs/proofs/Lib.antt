@@ -10,6 +10,7 @@ mod Main
 mod Cases
 mod Forms
 mod Ranges
+mod Turned
 mod Placed
 mod Lists
 mod Lined

@@ -1,6 +1,7 @@
 -- What a row does to the lines of any kind, as lists of members.
 use Rattle.std.proofs.Common.{◌≡◌, ℕ, zero, suc, ◌-◌, ◌<◌, ◌≤◌, Bool, true, false, cond, not, ◌||◌, eqb, ltb, List, [], ◌∷◌, ◌++◌, length, Some as some, None as none, Ok, Err, Option, Result, sym, refl, ap, ◌∙◌, subst, arith}
-use Rattle.std.proofs.lemmas.Bool.{lt-ltb, ltb-true, ltb-false}
+use Rattle.std.proofs.lemmas.List.{nil_from_length}
+use Rattle.std.proofs.lemmas.Bool.{lt-ltb, ltb-true, ltb-false, and_from, eq-eqb, not-true, not_from_false}
 use Rattle.lines.specs.Lines.{has, put, minus, Lines, Sound, lines, stands, distinct, add_answer, remove_answer, after as after_in, without as without1}
 use Rattle.lines.specs.Kinds.{Kind as LineKind, Laws, Picks}
 use Rattle.stages.specs.Calls.{Object, gate_of, cond_of, same_object, without, to_list, Request}
@@ -13,7 +14,9 @@ use Rattle.nub.specs.Places.{line_no, in_range, at_line}
 use Rattle.nub.specs.View.{by_obj, picks}
 use Rattle.nub.specs.Work.{worked_in, taken_in}
 use Rattle.stages.proofs.Finite.{no, and_l, and_r}
-use Rattle.runs.proofs.Small.{eqb_eq, eqb_same, same_object_lem, is_keep_line, is_stand, stands_pre, and_in, not_in, not_out}
+use Rattle.lines.proofs.Taking.{put_here}
+use Rattle.nub.proofs.Draining.{exact}
+use Rattle.runs.proofs.Small.{same_object_lem, is_keep_line, is_stand, stands_pre}
 use Rattle.lines.specs.declared.decline.Decline.{Decline}
 use Rattle.lines.specs.declared.decline.Decline.TheVariants.{NoSuchLine, NotServed, AlreadyInSet, NotInLine}
 use Rattle.nub.specs.Lining.{add_in, remove_in, take_in, who_in, standing, drained, drain_in}
@@ -51,7 +54,7 @@ minus_is (some t) xs = without_one t xs
 none_left : (xs ys : List ℕ) → ((u : ℕ) → has u xs ≡ true → has u ys ≡ true) → without (λ u. has u ys) xs ≡ []
 none_left [] ys h = refl
 none_left (x ∷ xs) ys h =
-    ap (λ (b : Bool). cond b (without (λ u. has u ys) xs) (x ∷ without (λ u. has u ys) xs)) (h x (ap (λ (b : Bool). b || has x xs) (eqb_same x)))
+    ap (λ (b : Bool). cond b (without (λ u. has u ys) xs) (x ∷ without (λ u. has u ys) xs)) (h x (ap (λ (b : Bool). b || has x xs) (eq-eqb x x refl)))
     ∙ none_left xs ys (λ u e. h u (later (eqb x u) (has u xs) e))
   where
     later : (a b : Bool) → b ≡ true → (a || b) ≡ true
@@ -64,15 +67,8 @@ put_put f l xs ys = λ i k. point k i
     point : (k : ℕ) → put (put f l ys) l xs k ≡ put f l xs k
     point k = elim (eqb l k) as (λ b. cond b xs (cond b ys (f k)) ≡ cond b xs (f k)) [ true ↦ refl | false ↦ refl ]
 
-put_here : (f : Lines) (l : ℕ) (xs : List ℕ) → put f l xs l ≡ xs
-put_here f l xs = ap (λ (b : Bool). cond b xs (f l)) (eqb_same l)
-
 empty_has : {A : Type 0} (t : ℕ) → has t [] ≡ true → A
 empty_has t h = no h
-
-length_zero : (xs : List ℕ) → length xs ≡ 0 → xs ≡ []
-length_zero [] h = refl
-length_zero (x ∷ xs) h = let z : ⊥ = omega arith in absurd z
 
 -- what a member less leaves
 still : (t x : ℕ) (xs : List ℕ) → has x xs ≡ false → has x (without1 t xs) ≡ false
@@ -98,26 +94,7 @@ distinct_less t (x ∷ xs) d = go (eqb x t) (distinct_less t xs (and_r (not (has
   where
     go : (a : Bool) → distinct (without1 t xs) ≡ true → distinct (cond a (without1 t xs) (x ∷ without1 t xs)) ≡ true
     go true ih = ih
-    go false ih = and_in (not (has x (without1 t xs))) (distinct (without1 t xs)) (not_in (has x (without1 t xs)) (still t x xs (not_out (has x xs) (and_l (not (has x xs)) (distinct xs) d)))) ih
-
-absent : (t : ℕ) (xs : List ℕ) → has t xs ≡ false → without1 t xs ≡ xs
-absent t [] h = refl
-absent t (x ∷ xs) h = go (eqb x t) h (λ e. absent t xs e)
-  where
-    go : (a : Bool) → (a || has t xs) ≡ false → (has t xs ≡ false → without1 t xs ≡ xs) → cond a (without1 t xs) (x ∷ without1 t xs) ≡ x ∷ xs
-    go true e ih = no (sym e)
-    go false e ih = ap (λ (ys : List ℕ). x ∷ ys) (ih e)
-
-one_less_lem : (t : ℕ) (xs : List ℕ) → distinct xs ≡ true → has t xs ≡ true → length xs ≡ suc (length (without1 t xs))
-one_less_lem t [] d h = no h
-one_less_lem t (x ∷ xs) d h = go (eqb x t) refl h (λ p. one_less_lem t xs (and_r (not (has x xs)) (distinct xs) d) p)
-  where
-    fresh : eqb x t ≡ true → has t xs ≡ false
-    fresh e = subst (λ (z : ℕ). has z xs ≡ false) (eqb_eq x t e) (not_out (has x xs) (and_l (not (has x xs)) (distinct xs) d))
-
-    go : (a : Bool) → eqb x t ≡ a → (a || has t xs) ≡ true → (has t xs ≡ true → length xs ≡ suc (length (without1 t xs))) → suc (length xs) ≡ suc (length (cond a (without1 t xs) (x ∷ without1 t xs)))
-    go true e p ih = ap (λ (ys : List ℕ). suc (length ys)) (sym (absent t xs (fresh e)))
-    go false e p ih = ap suc (ih p)
+    go false ih = and_from (not (has x (without1 t xs))) (distinct (without1 t xs)) (not_from_false (has x (without1 t xs)) (still t x xs (not-true (has x xs) (and_l (not (has x xs)) (distinct xs) d)))) ih
 
 module _ (K : LineKind) (laws : Laws K) (l : ℕ) where
   -- a drained line is empty, and the others are as they were
@@ -125,7 +102,7 @@ module _ (K : LineKind) (laws : Laws K) (l : ℕ) where
   drained_line zero s d e = laws.after_take s l ∙ ap (λ (xs : List ℕ). put (K.line s) l xs) (go (K.next s l) (laws.picks s l))
     where
       nil : K.line s l ≡ []
-      nil = length_zero (K.line s l) e
+      nil = nil_from_length (K.line s l) e
 
       go : (o : Option ℕ) → Picks o (K.line s l) → minus o (K.line s l) ≡ []
       go none p = p
@@ -137,7 +114,7 @@ module _ (K : LineKind) (laws : Laws K) (l : ℕ) where
       go none q p ih = let z : length (K.line s l) ≡ 0 = ap length p in let y : ⊥ = omega arith in absurd y
       go (some t) q p ih =
           ih (subst (λ (xs : List ℕ). distinct xs ≡ true) (sym here) (distinct_less t (K.line s l) d))
-          (let a : length (K.line s l) ≡ suc (length (without1 t (K.line s l))) = one_less_lem t (K.line s l) d p in let b : length (K.line (K.taken s l) l) ≡ length (without1 t (K.line s l)) = ap length here in omega arith)
+          (let a : length (K.line s l) ≡ suc (length (without1 t (K.line s l))) = exact t (K.line s l) d p in let b : length (K.line (K.taken s l) l) ≡ length (without1 t (K.line s l)) = ap length here in omega arith)
           ∙ ap (λ (g : Lines). put g l []) then ∙ put_put (K.line s) l [] (without1 t (K.line s l))
         where
           then : K.line (K.taken s l) ≡ put (K.line s) l (without1 t (K.line s l))

@@ -1,6 +1,6 @@
 -- Arrays and numbered lines, and functions of the number and of the object.
-use Rattle.std.proofs.Common.{◌≡◌, ℕ, zero, suc, ◌+◌, ◌%◌, ◌^◌, ◌<◌, ◌≤◌, Bool, true, false, cond, eqb, ltb, ◌≢◌, ◌⊎◌, List, [], ◌∷◌, length, get_or, set, Some as some, None as none, Option, sym, refl, ap, ◌∙◌, subst, inl, inr, le_of_suc-le-suc, add-zero, add-suc, mod-eq_of_lt, suc-add, add-one, arith, get_or-set_other, get_or-set_same}
-use Rattle.std.proofs.lemmas.Bool.{ltb-true, ltb-false}
+use Rattle.std.proofs.Common.{◌≡◌, ℕ, zero, suc, ◌+◌, ◌%◌, ◌^◌, ◌<◌, ◌≤◌, Bool, true, false, cond, eqb, ltb, ◌≢◌, ◌⊎◌, List, [], ◌∷◌, length, get_or, set, Some as some, None as none, Option, sym, refl, ap, ◌∙◌, subst, inl, inr, le_of_suc-le-suc, add-zero, add-suc, mod-eq_of_lt, suc-add, add-one, arith, get_or-set_other, get_or-set_same, zero-add}
+use Rattle.std.proofs.lemmas.Bool.{ltb-true, ltb-false, eq-eqb, eqb-true}
 use Rattle.lines.specs.Lines.{has}
 use Rattle.stages.specs.Calls.{Object, same_object}
 use Rattle.stages.specs.Calls.Object.{mutex, semaphore, condition}
@@ -16,7 +16,7 @@ use Rattle.nub.specs.Places.{line_no, in_range, at_line}
 use Rattle.nub.specs.View.{by_line, by_obj}
 use Rattle.nub.specs.Work.{bits_l, wake_from, count_at}
 use Rattle.runs.proofs.Forms.{owners_by, freed_at}
-use Rattle.runs.proofs.Small.{eqb_eq, eqb_of, same_object_lem, clash}
+use Rattle.runs.proofs.Small.{same_object_lem, clash}
 use Rattle.runs.proofs.Agree.{is_keep_gate, wakes}
 use Rattle.std.proofs.lemmas.List.{get_or_past}
 
@@ -55,10 +55,10 @@ pub list_set : {A : Type 0} (d : A) (xs : List A) (t : ℕ) (a : A) (u : ℕ) �
 list_set d xs t a u h = go (eqb t u) refl
   where
     apart : eqb t u ≡ false → u ≢ t
-    apart p e = clash (eqb_of t u (sym e)) p
+    apart p e = clash (eq-eqb t u (sym e)) p
 
     go : (b : Bool) → eqb t u ≡ b → get_or (set xs t a) u d ≡ cond b a (get_or xs u d)
-    go true p = subst (λ (z : ℕ). get_or (set xs t a) z d ≡ a) (eqb_eq t u p) (get_or-set_same xs t a d h)
+    go true p = subst (λ (z : ℕ). get_or (set xs t a) z d ≡ a) (eqb-true t u p) (get_or-set_same xs t a d h)
     go false p = get_or-set_other xs t u a d (apart p)
 
 at_view : (l : List Bool) (g : Object) (b : Bool) → in_range g ≡ true → line_no g < length l → (o : Object)
@@ -98,10 +98,7 @@ pub wake_length : (e : LineEffect) (us : List ℕ) (n : ℕ) (l : List Thread) �
 wake_length e us n [] = refl
 wake_length e us n (x ∷ l) = ap suc (wake_length e us (suc n) l)
 
-zero_plus : (n : ℕ) → 0 + n ≡ n
-zero_plus n = omega arith
-
-lt_or : (a b : ℕ) → (a < b) ⊎ (b ≤ a)
+pub lt_or : (a b : ℕ) → (a < b) ⊎ (b ≤ a)
 lt_or a b = go (ltb a b) refl
   where
     go : (z : Bool) → ltb a b ≡ z → (a < b) ⊎ (b ≤ a)
@@ -117,7 +114,7 @@ woken_all e us l h u = go (lt_or u (length l))
     out q false p = sym (get_or_past l u idle_thread q)
 
     go : (u < length l) ⊎ (length l ≤ u) → get_or (wake_from e us 0 l) u idle_thread ≡ cond (has u us) (woken_thread e (get_or l u idle_thread)) (get_or l u idle_thread)
-    go (inl p) = wake_view e us 0 l u p ∙ ap (λ (z : ℕ). cond (has z us) (woken_thread e (get_or l u idle_thread)) (get_or l u idle_thread)) (zero_plus u)
+    go (inl p) = wake_view e us 0 l u p ∙ ap (λ (z : ℕ). cond (has z us) (woken_thread e (get_or l u idle_thread)) (get_or l u idle_thread)) (zero-add u)
     go (inr q) =
         get_or_past (wake_from e us 0 l) u idle_thread (subst (λ (z : ℕ). z ≤ u) (sym (wake_length e us 0 l)) q)
         ∙ out q (has u us) refl
@@ -182,7 +179,7 @@ module _ (c : ℕ) (us : List ℕ) (k : Core) where
   signalled h b i = list_set 0 k.counts c ((count_at k c + 1) % 2 ^ 32) i h ∙ same (eqb c i) refl
     where
       same : (z : Bool) → eqb c i ≡ z → cond z ((count_at k c + 1) % 2 ^ 32) (get_or k.counts i 0) ≡ cond z (suc (get_or k.counts i 0)) (get_or k.counts i 0)
-      same true p = up_one (count_at k c) b ∙ ap (λ (x : ℕ). suc (get_or k.counts x 0)) (eqb_eq c i p)
+      same true p = up_one (count_at k c) b ∙ ap (λ (x : ℕ). suc (get_or k.counts x 0)) (eqb-true c i p)
       same false p = refl
 
   pub freed_counts : (e : LineEffect) → (signals e ≡ true → c < length k.counts) → (signals e ≡ true → count_at k c < 4294967295) → (i : ℕ)

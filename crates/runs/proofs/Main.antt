@@ -1,5 +1,6 @@
 -- Each turn is right, and every run conforms.
 use Rattle.std.proofs.Common.{◌≡◌, ℕ, Bool, true, false, cond, not, ◌&&◌, ◌||◌, eqb, ltb, ◌⊎◌, List, [], ◌∷◌, Some as some, None as none, Option, sym, refl, ap, ◌∙◌, subst, inl, inr, arith}
+use Rattle.std.proofs.lemmas.Bool.{and_from, eqb-true, not-true}
 use mathlib.Core.Bool.{beq}
 use Rattle.stages.specs.Names.CallKind.{NoCall, Acquire, Release, Wait, Signal, Broadcast, SemP, SemV, Alert, TestAlert, AlertP, AlertWait}
 use Rattle.stages.specs.Calls.{Object, gate_of, cond_of, same_object, elem, is_some, Request}
@@ -27,7 +28,7 @@ use Rattle.runs.specs.Runs.{Picks, Step, Conforms, RunsConform}
 use Rattle.runs.specs.Reading.{on_way, Free, Holds, is_parked, wait_clear, held_by, read_holder, read_waits, read_avail}
 use Rattle.stages.proofs.Finite.{imp_at, no, and_l, and_r}
 use Rattle.stages.specs.Pairs.{fits}
-use Rattle.runs.proofs.Small.{eqb_eq, is_stand, and_in, or_else, not_out, clash}
+use Rattle.runs.proofs.Small.{is_stand, or_else, clash}
 use Rattle.runs.proofs.Agree.{idle_is, is_quit, take_ok, first_between}
 use Rattle.runs.proofs.Inv.{Inv, Taken, is_taken, does_inv, taken_one}
 use Rattle.runs.proofs.Submit.{not_some, Granted, granted_for, submitted_inv, built_inv, by_one}
@@ -112,7 +113,7 @@ module _ (s : NubState) (t : ℕ) (pick : Pick) (inv : Inv s) (pk : Picks s pick
       (holder_ok_lem (s.thread t).stage (s.thread t).call.kind (seen s t) (inv.fit t)) (on_mutex h)
 
   taking : is_take (row_of s t).gate ≡ true → s.bits (gate_of (s.thread t).call) ≡ false
-  taking h = not_out (s.bits (gate_of (s.thread t).call)) (imp_at (is_take (row_of s t).gate) (not (s.bits (gate_of (s.thread t).call))) (take_ok (s.thread t).stage (s.thread t).call.kind (seen s t) (inv.fit t)) h)
+  taking h = not-true (s.bits (gate_of (s.thread t).call)) (imp_at (is_take (row_of s t).gate) (not (s.bits (gate_of (s.thread t).call))) (take_ok (s.thread t).stage (s.thread t).call.kind (seen s t) (inv.fit t)) h)
 
   take_allowed : holder_e (row_of s t).action ≡ h_take → read_holder s (s.thread t).call.x ≡ none
   take_allowed e =
@@ -140,7 +141,7 @@ module _ (s : NubState) (t : ℕ) (pick : Pick) (inv : Inv s) (pk : Picks s pick
   resumes : eqb (action_no (row_of s t).action) 4 ≡ true → read_waits s (cond_of (s.thread t).call) t ≡ false
   resumes e =
       waits_self s inv t
-      ∙ not_out (in_set (s.thread t).stage (s.thread t).call.kind (seen s t).same)
+      ∙ not-true (in_set (s.thread t).stage (s.thread t).call.kind (seen s t).same)
       (imp_at (eqb (action_no (row_of s t).action) 4) (not (in_set (s.thread t).stage (s.thread t).call.kind (seen s t).same)) (resume_ok (s.thread t).stage (s.thread t).call.kind (seen s t) (inv.fit t)) e)
 
   choosing : eqb (action_no (row_of s t).action) 5 ≡ true → (read_waits s (cond_of (s.thread t).call) t ≡ false) ⊎ (s.flags t ≡ true)
@@ -149,7 +150,7 @@ module _ (s : NubState) (t : ℕ) (pick : Pick) (inv : Inv s) (pk : Picks s pick
       go : (b : Bool) → in_set (s.thread t).stage (s.thread t).call.kind (seen s t).same ≡ b → (read_waits s (cond_of (s.thread t).call) t ≡ false) ⊎ (s.flags t ≡ true)
       go true p =
           inr (inv.quits t (imp_at (eqb (action_no (row_of s t).action) 5 && in_set (s.thread t).stage (s.thread t).call.kind (seen s t).same) (is_quit (s.thread t).stage)
-          (choose_flag (s.thread t).stage (s.thread t).call.kind (seen s t) (inv.fit t)) (and_in (eqb (action_no (row_of s t).action) 5) (in_set (s.thread t).stage (s.thread t).call.kind (seen s t).same) e p)))
+          (choose_flag (s.thread t).stage (s.thread t).call.kind (seen s t) (inv.fit t)) (and_from (eqb (action_no (row_of s t).action) 5) (in_set (s.thread t).stage (s.thread t).call.kind (seen s t).same) e p)))
       go false p = inl (waits_self s inv t ∙ p)
 
   raising : eqb (action_no (row_of s t).action) 14 ≡ true → s.flags t ≡ true
@@ -189,7 +190,7 @@ module _ (s : NubState) (t : ℕ) (pick : Pick) (inv : Inv s) (pk : Picks s pick
             (beq_eq (row_of s t).value (in_set (s.thread t).stage (s.thread t).call.kind (seen s t).same)
             (imp_at (eqb (action_no (row_of s t).action) 5) (beq (row_of s t).value (in_set (s.thread t).stage (s.thread t).call.kind (seen s t).same)) (choose_ok (s.thread t).stage (s.thread t).call.kind (seen s t) (inv.fit t)) (ap (λ (z : (Option Action)). eqb (action_no z) 5) e))
             ∙ sym (waits_self s inv t));
-        complete = λ h. eqb_eq (done_by (row_of s t).action (done_at (s.thread t).stage (s.thread t).call.kind)) (total (s.thread t).call.kind)
+        complete = λ h. eqb-true (done_by (row_of s t).action (done_at (s.thread t).stage (s.thread t).call.kind)) (total (s.thread t).call.kind)
             (imp_at (is_finished (row_of s t).status) (eqb (done_by (row_of s t).action (done_at (s.thread t).stage (s.thread t).call.kind)) (total (s.thread t).call.kind)) (complete_ok (s.thread t).stage (s.thread t).call.kind (seen s t) (inv.fit t)) h);
         told = λ h. ap num
             (beq_eq (row_of s t).value (answers (s.thread t).call.kind (said_v (row_of s t).action (seen s t).quit (seen s t).flag (in_set (s.thread t).stage (s.thread t).call.kind (seen s t).same)))
@@ -223,7 +224,7 @@ module _ (s : NubState) (t : ℕ) (c : Request) (inv : Inv s) (gr : Granted s t 
   new = record { stage = first c.kind; call = c; kept = (s.thread t).kept; out = (s.thread t).out }
 
   was : (u : ℕ) → eqb t u ≡ true → (s.thread u).stage ≡ Idle
-  was u p = idle_is (s.thread u).stage (subst (λ (z : ℕ). is_idle (s.thread z).stage ≡ true) (eqb_eq t u p) gr.idle!)
+  was u p = idle_is (s.thread u).stage (subst (λ (z : ℕ). is_idle (s.thread z).stage ≡ true) (eqb-true t u p) gr.idle!)
 
   sub_clear : (m u : ℕ) → wait_clear ((submitted s t c).thread u) m ≡ wait_clear (s.thread u) m
   unfolding new
@@ -263,7 +264,7 @@ module _ (s : NubState) (t : ℕ) (c : Request) (inv : Inv s) (gr : Granted s t 
       (λ m. sub_held m (s.owners m)) sub_waits (λ i. refl) (λ u. refl)
       (λ u. by_one (λ h. cond (eqb t u) c (s.thread u).call ≡ h.call) (eqb t u) new (s.thread u) (λ p. rw p) (λ p. rw p))
       sub_done
-      (λ u. by_one (λ h. is_alerted (s.thread u).out ≡ is_alerted h.out) (eqb t u) new (s.thread u) (λ p. ap (λ (z : ℕ). is_alerted (s.thread z).out) (sym (eqb_eq t u p))) (λ p. refl))
+      (λ u. by_one (λ h. is_alerted (s.thread u).out ≡ is_alerted h.out) (eqb t u) new (s.thread u) (λ p. ap (λ (z : ℕ). is_alerted (s.thread z).out) (sym (eqb-true t u p))) (λ p. refl))
 
 no_call_lem : (k : CallKind) → fits Idle k ≡ true → k ≡ NoCall
 no_call_lem NoCall h = refl
@@ -327,7 +328,7 @@ parked_stands st h = grind arith
 
 clear_way : (h : ThreadState) (m : ℕ) → wait_clear h m ≡ true → on_way h (mutex m) ≡ true
 clear_way h m p =
-    and_in (marks h.stage).way (same_object (gate_of h.call) (mutex m))
+    and_from (marks h.stage).way (same_object (gate_of h.call) (mutex m))
     (way_13 h.stage (and_r (is_wait h.call.kind) (eqb (stage_no h.stage) 13) (and_l (is_wait h.call.kind && eqb (stage_no h.stage) 13) (eqb h.call.x m) p)))
     (ap (λ (z : Object). same_object z (mutex m)) (gate_is h.call false (wait_mutex h.call.kind (and_l (is_wait h.call.kind) (eqb (stage_no h.stage) 13) (and_l (is_wait h.call.kind && eqb (stage_no h.stage) 13) (eqb h.call.x m) p))))
     ∙ and_r (is_wait h.call.kind && eqb (stage_no h.stage) 13) (eqb h.call.x m) p)
@@ -356,7 +357,7 @@ at_end s inv =
 
     free_way : (o : Object) → Free (read_all s) o → (u : ℕ) → elem u (s.line o) ≡ true → (w : ℕ) × (on_way (s.thread w) o ≡ true)
     free_way (mutex m) f u e = held_way m u e (s.owners m) refl f
-    free_way (semaphore i) f u e = inv.way (semaphore i) refl (not_out (s.bits (semaphore i)) f) u e
+    free_way (semaphore i) f u e = inv.way (semaphore i) refl (not-true (s.bits (semaphore i)) f) u e
     free_way (condition c) f u e = absurd f
 
 pub conforms : (es : List Step) (s : NubState) → Inv s → Conforms (read_all s) s es

@@ -26,7 +26,7 @@ use Rattle.nub.specs.Model.{row_of, seen, line_at}
 use Rattle.nub.specs.View.{view, by_line}
 use Rattle.nub.specs.Work.{Done, with_threads, with_spin, with_gates, thread_at, count_at, set_at, bits_l, owners_l, alert_at, alert_named, applied, worked_in, taken_in, signalled_on, freed_in, freed_mask_on, mask_in, performed}
 use Rattle.nub.specs.Turn.{sight_of, reports, steps, turned}
-use Rattle.nub.proofs.Turned.{turned_in}
+use Rattle.runs.proofs.Turned.{turned_in}
 use Rattle.runs.proofs.Forms.{set_owner, owners_by, named_by, applied_by, freed_at, mask_at, performed_by}
 use Rattle.runs.proofs.Small.{is_keep_line}
 use Rattle.runs.proofs.Agree.{is_keep_gate}

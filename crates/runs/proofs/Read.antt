@@ -1,5 +1,6 @@
 -- The published state as it is read off a nub, and that a turn's action leads from one reading to the next.
 use Rattle.std.proofs.Common.{◌≡◌, ℕ, Bool, true, false, cond, not, ◌&&◌, ◌||◌, eqb, List, Some as some, None as none, Option, sym, refl, ap, ◌∙◌, subst, arith}
+use Rattle.std.proofs.lemmas.Bool.{and_from, eq-eqb, eqb-true, not-true, not_from_false}
 use mathlib.Core.Bool.{beq}
 use Rattle.stages.specs.Calls.{Object, gate_of, cond_of, same_object, elem, Request, no_call}
 use Rattle.stages.specs.Names.{stage_no, is_idle, is_wait, is_alert_wait, is_sem, is_alerted, CallKind}
@@ -25,7 +26,7 @@ use Rattle.runs.specs.Published.{Published, is_action, is_finished, done_by, per
 use Rattle.runs.specs.Reading.{wait_clear, held_by, read_holder, read_waits, read_avail}
 use Rattle.stages.proofs.Finite.{imp_at, no, and_l, and_r}
 use Rattle.stages.specs.Pairs.{fits}
-use Rattle.runs.proofs.Small.{eqb_eq, eqb_same, is_stand, and_in, not_in, or_else, not_out, clash}
+use Rattle.runs.proofs.Small.{is_stand, or_else, clash}
 use Rattle.runs.specs.Reading.{stands_by}
 use Rattle.runs.proofs.Agree.{by_idle, wakes, is_standing, owns_now}
 use Rattle.runs.proofs.Inv.{Inv, stands_at, Taken, by_sort, stands_is, taken_mark, wake_mark}
@@ -64,11 +65,11 @@ stands_cond at_gate c = go (is_sem c.kind)
     go : (b : Bool) → same_object (cond b (semaphore c.x) (mutex c.x)) (condition (cond_of c)) ≡ false
     go true = refl
     go false = refl
-stands_cond at_cond c = eqb_same (cond_of c)
+stands_cond at_cond c = eq-eqb (cond_of c) (cond_of c) refl
 
 pub set_of : (h : ThreadState) (n : ℕ) → in_set_of h n (cond_of h.call) ≡ in_set h.stage h.call.kind (eqb h.kept n)
 set_of h n =
-    rw (stands_cond (marks h.stage).line h.call, eqb_same (cond_of h.call), mathlib.Core.Bool.and-true (is_between h.stage h.call.kind))
+    rw (stands_cond (marks h.stage).line h.call, eq-eqb (cond_of h.call) (cond_of h.call) refl, mathlib.Core.Bool.and-true (is_between h.stage h.call.kind))
 
 pub waits_self : (s : NubState) → Inv s → (t : ℕ) → read_waits s (cond_of (s.thread t).call) t ≡ in_set (s.thread t).stage (s.thread t).call.kind (seen s t).same
 waits_self s inv t = waits_is s inv (cond_of (s.thread t).call) t ∙ set_of (s.thread t) (s.counts (cond_of (s.thread t).call))
@@ -81,17 +82,17 @@ woken_done leave_gate st k v w m p f = no w
 woken_done join_cond st k v w m p f = no w
 woken_done leave_cond st k v w m p f = no w
 woken_done wake_gate st k v w m p f =
-    eqb_eq (done_at Try k) (done_at st k)
+    eqb-true (done_at Try k) (done_at st k)
     (imp_at (is_stand at_gate (marks st).line && not (marks st).spin) (eqb (done_at Try k) (done_at st k)) (rest_done_gate st k v f)
-    (and_in (is_stand at_gate (marks st).line) (not (marks st).spin) m (not_in (marks st).spin p)))
+    (and_from (is_stand at_gate (marks st).line) (not (marks st).spin) m (not_from_false (marks st).spin p)))
 woken_done signal_one st k v w m p f =
-    eqb_eq (done_at (cond (is_alert_wait k) Choose Try) k) (done_at st k)
+    eqb-true (done_at (cond (is_alert_wait k) Choose Try) k) (done_at st k)
     (imp_at (is_stand at_cond (marks st).line && not (marks st).spin) (eqb (done_at (cond (is_alert_wait k) Choose Try) k) (done_at st k)) (rest_done_cond st k v f)
-    (and_in (is_stand at_cond (marks st).line) (not (marks st).spin) m (not_in (marks st).spin p)))
+    (and_from (is_stand at_cond (marks st).line) (not (marks st).spin) m (not_from_false (marks st).spin p)))
 woken_done signal_all st k v w m p f =
-    eqb_eq (done_at (cond (is_alert_wait k) Choose Try) k) (done_at st k)
+    eqb-true (done_at (cond (is_alert_wait k) Choose Try) k) (done_at st k)
     (imp_at (is_stand at_cond (marks st).line && not (marks st).spin) (eqb (done_at (cond (is_alert_wait k) Choose Try) k) (done_at st k)) (rest_done_cond st k v f)
-    (and_in (is_stand at_cond (marks st).line) (not (marks st).spin) m (not_in (marks st).spin p)))
+    (and_from (is_stand at_cond (marks st).line) (not (marks st).spin) m (not_from_false (marks st).spin p)))
 
 out_said_lem : (e : OutcomeEffect) (o : (Option Outcome)) → out_said e (is_alerted o) ≡ is_alerted (out_new e o)
 out_said_lem keep_outcome o = refl
@@ -109,12 +110,12 @@ alerts_lem f a w t x g u h = go (flag_eq f (flag_of a w)) refl h
     go true e i = ap (λ (z : FlagEffect). flags_new z t x g u) (sym (flag_eq_lem f (flag_of a w) e))
     go false e i =
         let p : (flag_eq f clear_own && not (is_action a)) ≡ true = and_l (flag_eq f clear_own && not (is_action a)) (not (g t)) i in
-        let z : g t ≡ false = not_out (g t) (and_r (flag_eq f clear_own && not (is_action a)) (not (g t)) i) in
+        let z : g t ≡ false = not-true (g t) (and_r (flag_eq f clear_own && not (is_action a)) (not (g t)) i) in
         rw (no_act_flag a w (and_r (flag_eq f clear_own) (not (is_action a)) p), flag_eq_lem f clear_own (and_l (flag_eq f clear_own) (not (is_action a)) p))
         (own (eqb t u) refl z)
       where
         own : (b : Bool) → eqb t u ≡ b → g t ≡ false → g u ≡ cond b false (g u)
-        own true q z = ap g (sym (eqb_eq t u q)) ∙ z
+        own true q z = ap g (sym (eqb-true t u q)) ∙ z
         own false q z = refl
 
 avail_lem : (b : Bool) (e : GateEffect) (x : ℕ) (f : Object → Bool) (i : ℕ)
@@ -148,13 +149,13 @@ module _ (s : NubState) (t : ℕ) (k : List ℕ) (inv : Inv s) (busy : is_idle (
   fin_is =
       beq_eq (is_finished (row_of s t).status) (is_idle (row_of s t).next)
       (imp_at (not (is_idle (s.thread t).stage)) (beq (is_finished (row_of s t).status) (is_idle (row_of s t).next))
-      (fin_ok (s.thread t).stage (s.thread t).call.kind (seen s t) (inv.fit t)) (not_in (is_idle (s.thread t).stage) busy))
+      (fin_ok (s.thread t).stage (s.thread t).call.kind (seen s t) (inv.fit t)) (not_from_false (is_idle (s.thread t).stage) busy))
 
   pub noted_eq : (u : ℕ) → cond (eqb t u && is_finished (row_of s t).status) no_call (s.thread u).call ≡ ((does s t (row_of s t) k).thread u).call
   noted_eq u =
       by_sort (λ h. cond (eqb t u && is_finished (row_of s t).status) no_call (s.thread u).call ≡ h.call) (eqb t u) (elem u k)
       (moved (row_of s t) (s.counts (cond_of (s.thread t).call)) (s.thread t)) (woken (row_of s t).line (s.thread u)) (s.thread u)
-      (λ p. rw (p, fin_is) (ap (λ (z : ℕ). cond (is_idle (row_of s t).next) no_call (s.thread z).call) (sym (eqb_eq t u p))))
+      (λ p. rw (p, fin_is) (ap (λ (z : ℕ). cond (is_idle (row_of s t).next) no_call (s.thread z).call) (sym (eqb-true t u p))))
       (λ p q. rw p) (λ p q. rw p)
 
   pub done_eq : (u : ℕ)
@@ -164,17 +165,17 @@ module _ (s : NubState) (t : ℕ) (k : List ℕ) (inv : Inv s) (busy : is_idle (
       by_sort (λ h. cond (eqb t u) (cond (is_finished (row_of s t).status) 0 (done_by (row_of s t).action (done_at (s.thread u).stage (s.thread u).call.kind))) (done_at (s.thread u).stage (s.thread u).call.kind) ≡ done_at h.stage h.call.kind) (eqb t u) (elem u k)
       (moved (row_of s t) (s.counts (cond_of (s.thread t).call)) (s.thread t)) (woken (row_of s t).line (s.thread u)) (s.thread u)
       (λ p. rw (p, fin_is)
-      (subst (λ (z : ℕ). cond (is_idle (row_of s t).next) 0 (done_by (row_of s t).action (done_at (s.thread z).stage (s.thread z).call.kind)) ≡ done_at (row_of s t).next (cond (is_idle (row_of s t).next) no_call (s.thread t).call).kind) (eqb_eq t u p)
+      (subst (λ (z : ℕ). cond (is_idle (row_of s t).next) 0 (done_by (row_of s t).action (done_at (s.thread z).stage (s.thread z).call.kind)) ≡ done_at (row_of s t).next (cond (is_idle (row_of s t).next) no_call (s.thread t).call).kind) (eqb-true t u p)
       (by_idle (λ n c. cond (is_idle n) 0 (done_by (row_of s t).action (done_at (s.thread t).stage (s.thread t).call.kind)) ≡ done_at n c.kind) (row_of s t).next (s.thread t).call refl
-      (λ b. rw b (eqb_eq (done_by (row_of s t).action (done_at (s.thread t).stage (s.thread t).call.kind)) (done_at (row_of s t).next (s.thread t).call.kind)
+      (λ b. rw b (eqb-true (done_by (row_of s t).action (done_at (s.thread t).stage (s.thread t).call.kind)) (done_at (row_of s t).next (s.thread t).call.kind)
       (imp_at (not (is_idle (row_of s t).next)) (eqb (done_by (row_of s t).action (done_at (s.thread t).stage (s.thread t).call.kind)) (done_at (row_of s t).next (s.thread t).call.kind))
-      (done_ok (s.thread t).stage (s.thread t).call.kind (seen s t) (inv.fit t)) (not_in (is_idle (row_of s t).next) b)))))))
+      (done_ok (s.thread t).stage (s.thread t).call.kind (seen s t) (inv.fit t)) (not_from_false (is_idle (row_of s t).next) b)))))))
       (λ p q. rw p (sym (woken_done (row_of s t).line (s.thread u).stage (s.thread u).call.kind (seen s u) (tk u q).wakes!
       (taken_mark (row_of s t).line (marks (s.thread u).stage).line (s.thread t).call (s.thread u).call (tk u q).wakes! (tk u q).stands!) (tk u q).rests! (inv.fit u))))
       (λ p q. rw p)
 
   pub said_is : (perform (row_of s t).action (s.thread t).call t (bit (report_of s t (row_of s t) k).mask) (read_all s)).said t ≡ said_v (row_of s t).action (seen s t).quit (seen s t).flag (in_set (s.thread t).stage (s.thread t).call.kind (seen s t).same)
-  said_is = said_by (row_of s t).action (s.thread t).call t (bit (report_of s t (row_of s t) k).mask) (read_all s) t ∙ ap (λ (z : Bool). cond z (said_v (row_of s t).action (seen s t).quit (seen s t).flag (read_waits s (cond_of (s.thread t).call) t)) (is_alerted (s.thread t).out)) (eqb_same t) ∙ ap (λ (z : Bool). said_v (row_of s t).action (seen s t).quit (seen s t).flag z) (waits_self s inv t)
+  said_is = said_by (row_of s t).action (s.thread t).call t (bit (report_of s t (row_of s t) k).mask) (read_all s) t ∙ ap (λ (z : Bool). cond z (said_v (row_of s t).action (seen s t).quit (seen s t).flag (read_waits s (cond_of (s.thread t).call) t)) (is_alerted (s.thread t).out)) (eq-eqb t t refl) ∙ ap (λ (z : Bool). said_v (row_of s t).action (seen s t).quit (seen s t).flag z) (waits_self s inv t)
 
   pub said_eq : (u : ℕ) → cond (eqb t u && is_finished (row_of s t).status) false ((perform (row_of s t).action (s.thread t).call t (bit (report_of s t (row_of s t) k).mask) (read_all s)).said u) ≡ is_alerted ((does s t (row_of s t) k).thread u).out
   said_eq u =
@@ -182,7 +183,7 @@ module _ (s : NubState) (t : ℕ) (k : List ℕ) (inv : Inv s) (busy : is_idle (
       (moved (row_of s t) (s.counts (cond_of (s.thread t).call)) (s.thread t)) (woken (row_of s t).line (s.thread u)) (s.thread u)
       (λ p. ap (λ (z : Bool). cond (z && is_finished (row_of s t).status) false ((perform (row_of s t).action (s.thread t).call t (bit (report_of s t (row_of s t) k).mask) (read_all s)).said u)) p
       ∙ ap (λ (z : Bool). cond z false ((perform (row_of s t).action (s.thread t).call t (bit (report_of s t (row_of s t) k).mask) (read_all s)).said u)) fin_is
-      ∙ ap (λ (z : ℕ). cond (is_idle (row_of s t).next) false ((perform (row_of s t).action (s.thread t).call t (bit (report_of s t (row_of s t) k).mask) (read_all s)).said z)) (sym (eqb_eq t u p))
+      ∙ ap (λ (z : ℕ). cond (is_idle (row_of s t).next) false ((perform (row_of s t).action (s.thread t).call t (bit (report_of s t (row_of s t) k).mask) (read_all s)).said z)) (sym (eqb-true t u p))
       ∙ go (is_idle (row_of s t).next) refl)
       (λ p q. other u p) (λ p q. other u p)
     where
@@ -198,7 +199,7 @@ module _ (s : NubState) (t : ℕ) (k : List ℕ) (inv : Inv s) (busy : is_idle (
           said_is
           ∙ beq_eq (said_v (row_of s t).action (seen s t).quit (seen s t).flag (in_set (s.thread t).stage (s.thread t).call.kind (seen s t).same)) (out_said (row_of s t).out (seen s t).quit)
           (imp_at (not (is_idle (row_of s t).next)) (beq (said_v (row_of s t).action (seen s t).quit (seen s t).flag (in_set (s.thread t).stage (s.thread t).call.kind (seen s t).same)) (out_said (row_of s t).out (seen s t).quit))
-          (said_ok (s.thread t).stage (s.thread t).call.kind (seen s t) (inv.fit t)) (not_in (is_idle (row_of s t).next) e))
+          (said_ok (s.thread t).stage (s.thread t).call.kind (seen s t) (inv.fit t)) (not_from_false (is_idle (row_of s t).next) e))
           ∙ out_said_lem (row_of s t).out (s.thread t).out
 
   pub alerts_eq : (u : ℕ) → (perform (row_of s t).action (s.thread t).call t (bit (report_of s t (row_of s t) k).mask) (read_all s)).alerts u ≡ (does s t (row_of s t) k).flags u
@@ -221,7 +222,7 @@ module _ (s : NubState) (t : ℕ) (k : List ℕ) (inv : Inv s) (busy : is_idle (
       (moved (row_of s t) (s.counts (cond_of (s.thread t).call)) (s.thread t)) (woken (row_of s t).line (s.thread u)) (s.thread u)
       (λ q. clash q p)
       (λ a q. ap (λ (z : Bool). z && eqb (s.thread u).call.x m) (woken_clear (row_of s t).line (s.thread u).call.kind
-      ∙ sym (not_out (at_clear (s.thread u).stage (s.thread u).call.kind) (and_l (not (at_clear (s.thread u).stage (s.thread u).call.kind)) (not (is_between (s.thread u).stage (s.thread u).call.kind))
+      ∙ sym (not-true (at_clear (s.thread u).stage (s.thread u).call.kind) (and_l (not (at_clear (s.thread u).stage (s.thread u).call.kind)) (not (is_between (s.thread u).stage (s.thread u).call.kind))
       (rested u q)))))
       (λ a q. refl)
     where
@@ -233,7 +234,7 @@ module _ (s : NubState) (t : ℕ) (k : List ℕ) (inv : Inv s) (busy : is_idle (
 
   clear_self : (m : ℕ) → wait_clear ((does s t (row_of s t) k).thread t) m ≡ (at_clear (row_of s t).next (s.thread t).call.kind && eqb (s.thread t).call.x m)
   clear_self m =
-      rw (eqb_same t)
+      rw (eq-eqb t t refl)
       (by_idle (λ n c. (is_wait c.kind && eqb (stage_no n) 13 && eqb c.x m) ≡ (at_clear n (s.thread t).call.kind && eqb (s.thread t).call.x m)) (row_of s t).next (s.thread t).call
       (idle_clear (is_wait (s.thread t).call.kind) (eqb (s.thread t).call.x m)) (λ b. refl))
 
@@ -248,7 +249,7 @@ module _ (s : NubState) (t : ℕ) (k : List ℕ) (inv : Inv s) (busy : is_idle (
   clear_all m h u = go (eqb t u) refl
     where
       go : (b : Bool) → eqb t u ≡ b → wait_clear ((does s t (row_of s t) k).thread u) m ≡ wait_clear (s.thread u) m
-      go true p = subst (λ (z : ℕ). wait_clear ((does s t (row_of s t) k).thread z) m ≡ wait_clear (s.thread z) m) (eqb_eq t u p) (clear_self m ∙ h)
+      go true p = subst (λ (z : ℕ). wait_clear ((does s t (row_of s t) k).thread z) m ≡ wait_clear (s.thread z) m) (eqb-true t u p) (clear_self m ∙ h)
       go false p = clear_rest m u p
 
   owns_is : owns_now (s.thread t).stage (s.thread t).call.kind ≡ true → s.owners (s.thread t).call.x ≡ some t
@@ -258,7 +259,7 @@ module _ (s : NubState) (t : ℕ) (k : List ℕ) (inv : Inv s) (busy : is_idle (
   held_own h =
       ap (held_by s.thread (s.thread t).call.x) (owns_is h)
       ∙ ap (λ (z : Bool). cond {A = Option ℕ} z none (some t))
-      (ap (λ (z : Bool). at_clear (s.thread t).stage (s.thread t).call.kind && z) (eqb_same (s.thread t).call.x) ∙ mathlib.Core.Bool.and-true (at_clear (s.thread t).stage (s.thread t).call.kind))
+      (ap (λ (z : Bool). at_clear (s.thread t).stage (s.thread t).call.kind && z) (eq-eqb (s.thread t).call.x (s.thread t).call.x refl) ∙ mathlib.Core.Bool.and-true (at_clear (s.thread t).stage (s.thread t).call.kind))
 
   pub own_fact : (is_hDrop (holder_e (row_of s t).action) || at_clear (s.thread t).stage (s.thread t).call.kind) ≡ true → owns_now (s.thread t).stage (s.thread t).call.kind ≡ true
   own_fact h =
@@ -303,19 +304,19 @@ module _ (s : NubState) (t : ℕ) (k : List ℕ) (inv : Inv s) (busy : is_idle (
           → (is_hDrop H ≡ true → owns_now (s.thread t).stage (s.thread t).call.kind ≡ true)
           → holder_new H x t (read_holder s) m ≡ held_by th' m (owners_new e t (mutex x) s.owners m)
       own p h_keep keep_gate h f g =
-          held_frame m (s.owners m) (clear_all m (rw (not_out wb (and_l (not wb) (not wa) h), not_out wa (and_r (not wb) (not wa) h))))
+          held_frame m (s.owners m) (clear_all m (rw (not-true wb (and_l (not wb) (not wa) h), not-true wa (and_r (not wb) (not wa) h))))
       own p h_keep take_gate h f g = no h
       own p h_keep free_gate h f g =
           rw p
-          (subst (λ (z : ℕ). read_holder s z ≡ none) (eqb_eq x m p)
+          (subst (λ (z : ℕ). read_holder s z ≡ none) (eqb-true x m p)
           (held_own (f (and_l wb (not wa) h)) ∙ ap (λ (z : Bool). cond {A = Option ℕ} z none (some t)) (and_l wb (not wa) h)))
       own p h_take keep_gate h f g = no h
       own p h_take take_gate h f g =
-          rw (p, clear_self m, not_out wa (and_r (not wb) (not wa) h))
+          rw (p, clear_self m, not-true wa (and_r (not wb) (not wa) h))
       own p h_take free_gate h f g = no h
       own p h_drop keep_gate h f g =
           rw p
-          (sym (ap (held_by th' m) (subst (λ (z : ℕ). s.owners z ≡ some t) (eqb_eq x m p) (owns_is (g refl)))
+          (sym (ap (held_by th' m) (subst (λ (z : ℕ). s.owners z ≡ some t) (eqb-true x m p) (owns_is (g refl)))
           ∙ ap (λ (z : Bool). cond {A = Option ℕ} z none (some t)) (clear_self m ∙ ap (λ (z : Bool). wa && z) p ∙ ap (λ (z : Bool). z && true) (and_r (not wb) wa h))))
       own p h_drop take_gate h f g = no h
       own p h_drop free_gate h f g = rw p

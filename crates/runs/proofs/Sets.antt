@@ -1,5 +1,6 @@
 -- The waiting sets: a turn's action leads from one reading to the next.
 use Rattle.std.proofs.Common.{◌≡◌, ℕ, zero, suc, ◌+◌, ◌*◌, ◌/◌, ◌%◌, ◌^◌, ◌<◌, ◌≤◌, Bool, true, false, cond, not, ◌&&◌, ◌||◌, eqb, ltb, List, sym, refl, ap, ◌∙◌, subst, arith}
+use Rattle.std.proofs.lemmas.Bool.{eq-eqb, eqb-true, not-true, not_from_false}
 use mathlib.Core.Bool.{beq}
 use lib.Dec.{leb-zero, leb-suc-zero, leb-suc-suc}
 use Rattle.stages.specs.Calls.{Object, cond_of, same_object, elem, Request, no_call}
@@ -17,7 +18,7 @@ use Rattle.thread.specs.Turns.{ThreadState, moved, between_on, woken_stage}
 use Rattle.runs.specs.Published.{perform, bit}
 use Rattle.runs.specs.Reading.{read_waits}
 use Rattle.stages.proofs.Finite.{imp_at, and_l, and_r}
-use Rattle.runs.proofs.Small.{eqb_eq, eqb_same, is_stand, not_in, or_else, not_out, clash}
+use Rattle.runs.proofs.Small.{is_stand, or_else, clash}
 use Rattle.runs.specs.Reading.{stands_by}
 use Rattle.runs.proofs.Agree.{by_idle, wakes, is_standing}
 use Rattle.runs.proofs.Inv.{Inv, stands_at, Taken, by_sort, stands_one, stands_is, stood_busy}
@@ -130,7 +131,7 @@ counts_off : (e : LineEffect) (c : ℕ) (f : ℕ → ℕ) (i : ℕ) → (signals
 counts_off e c f i p = rw p
 
 keep_same : (b : Bool) (n k : ℕ) → eqb (cond b n k) n ≡ (b || eqb k n)
-keep_same true n k = eqb_same n
+keep_same true n k = eq-eqb n n refl
 keep_same false n k = refl
 
 abbrev pub is_signal_all : LineEffect → Bool
@@ -172,7 +173,7 @@ between_busy : (st : Stage) (k : CallKind) → is_between st k ≡ true → is_i
 between_busy st k h = grind arith
 
 counts_on : (e : LineEffect) (c : ℕ) (f : ℕ → ℕ) → signals e ≡ true → counts_new e c f c ≡ suc (f c)
-counts_on e c f h = rw (h, eqb_same c)
+counts_on e c f h = rw (h, eq-eqb c c refl)
 
 wake_line : (e : LineEffect) (c : Request) → signals e ≡ true → line_at e c ≡ condition (cond_of c)
 wake_line e c h = grind arith
@@ -184,7 +185,7 @@ module _ (s : NubState) (t : ℕ) (k : List ℕ) (inv : Inv s) (inv' : Inv (does
 
   rested : (u : ℕ) → is_standing (marks (s.thread u).stage).line ≡ true → is_between (s.thread u).stage (s.thread u).call.kind ≡ false
   rested u q =
-      not_out (is_between (s.thread u).stage (s.thread u).call.kind) (and_r (not (at_clear (s.thread u).stage (s.thread u).call.kind)) (not (is_between (s.thread u).stage (s.thread u).call.kind))
+      not-true (is_between (s.thread u).stage (s.thread u).call.kind) (and_r (not (at_clear (s.thread u).stage (s.thread u).call.kind)) (not (is_between (s.thread u).stage (s.thread u).call.kind))
       (imp_at (is_standing (marks (s.thread u).stage).line) (not (at_clear (s.thread u).stage (s.thread u).call.kind) && not (is_between (s.thread u).stage (s.thread u).call.kind))
       (rest_clear (s.thread u).stage (s.thread u).call.kind (seen s u) (inv.fit u)) q))
 
@@ -206,7 +207,7 @@ module _ (s : NubState) (t : ℕ) (k : List ℕ) (inv : Inv s) (inv' : Inv (does
   off_y i u p =
       rw (counts_off (row_of s t).line (cond_of (s.thread t).call) s.counts i no_count)
       (by_sort (λ h. in_set_of (s.thread u) (s.counts i) i ≡ in_set_of h (s.counts i) i) (eqb t u) (elem u k) (moved (row_of s t) (s.counts (cond_of (s.thread t).call)) (s.thread t)) (woken (row_of s t).line (s.thread u)) (s.thread u)
-      (λ q. subst (λ (z : ℕ). in_set_of (s.thread z) (s.counts i) i ≡ in_set_of (moved (row_of s t) (s.counts (cond_of (s.thread t).call)) (s.thread t)) (s.counts i) i) (eqb_eq t u q) (set_off (s.thread t) (s.counts i) i p ∙ sym (moved_off (s.counts i) i p)))
+      (λ q. subst (λ (z : ℕ). in_set_of (s.thread z) (s.counts i) i ≡ in_set_of (moved (row_of s t) (s.counts (cond_of (s.thread t).call)) (s.thread t)) (s.counts i) i) (eqb-true t u q) (set_off (s.thread t) (s.counts i) i p ∙ sym (moved_off (s.counts i) i p)))
       (λ q e. taken_off i u e no_count ∙ sym (woken_set (row_of s t).line (s.thread u) (s.counts i) i))
       (λ q e. refl))
     where
@@ -238,14 +239,14 @@ module _ (s : NubState) (t : ℕ) (k : List ℕ) (inv : Inv s) (inv' : Inv (does
       go false e =
           beq_eq (set_new (set_e (row_of s t).action) (in_set (s.thread t).stage (s.thread t).call.kind (seen s t).same)) (in_set (row_of s t).next (s.thread t).call.kind ((row_of s t).keep || (seen s t).same))
           (imp_at (not (is_idle (row_of s t).next)) (beq (set_new (set_e (row_of s t).action) (in_set (s.thread t).stage (s.thread t).call.kind (seen s t).same)) (in_set (row_of s t).next (s.thread t).call.kind ((row_of s t).keep || (seen s t).same)))
-          (set_ok (s.thread t).stage (s.thread t).call.kind (seen s t) (inv.fit t)) (not_in (is_idle (row_of s t).next) e))
+          (set_ok (s.thread t).stage (s.thread t).call.kind (seen s t) (inv.fit t)) (not_from_false (is_idle (row_of s t).next) e))
           ∙ ap (λ (z : Bool). in_set (row_of s t).next (s.thread t).call.kind z) (sym (keep_same (row_of s t).keep (s.counts (cond_of (s.thread t).call)) (s.thread t).kept))
           ∙ sym (moved_in (s.counts (cond_of (s.thread t).call)) e)
 
   plain_y : (u : ℕ) (f : Bool) → signals (row_of s t).line ≡ false → sets_b (set_e (row_of s t).action) true (eqb t u) f (in_set_of (s.thread u) (s.counts (cond_of (s.thread t).call)) (cond_of (s.thread t).call)) ≡ in_set_of ((does s t (row_of s t) k).thread u) (s.counts (cond_of (s.thread t).call)) (cond_of (s.thread t).call)
   plain_y u f w =
       by_sort (λ h. sets_b (set_e (row_of s t).action) true (eqb t u) f (in_set_of (s.thread u) (s.counts (cond_of (s.thread t).call)) (cond_of (s.thread t).call)) ≡ in_set_of h (s.counts (cond_of (s.thread t).call)) (cond_of (s.thread t).call)) (eqb t u) (elem u k) (moved (row_of s t) (s.counts (cond_of (s.thread t).call)) (s.thread t)) (woken (row_of s t).line (s.thread u)) (s.thread u)
-      (λ q. rw q (subst (λ (z : ℕ). sets_b (set_e (row_of s t).action) true true f (in_set_of (s.thread z) (s.counts (cond_of (s.thread t).call)) (cond_of (s.thread t).call)) ≡ in_set_of (moved (row_of s t) (s.counts (cond_of (s.thread t).call)) (s.thread t)) (s.counts (cond_of (s.thread t).call)) (cond_of (s.thread t).call)) (eqb_eq t u q) (self_y f w)))
+      (λ q. rw q (subst (λ (z : ℕ). sets_b (set_e (row_of s t).action) true true f (in_set_of (s.thread z) (s.counts (cond_of (s.thread t).call)) (cond_of (s.thread t).call)) ≡ in_set_of (moved (row_of s t) (s.counts (cond_of (s.thread t).call)) (s.thread t)) (s.counts (cond_of (s.thread t).call)) (cond_of (s.thread t).call)) (eqb-true t u q) (self_y f w)))
       (λ q e. rw q (ap (λ (z : Bool). sets_b (set_e (row_of s t).action) true false f z) (taken_off (cond_of (s.thread t).call) u e (ap (λ (z : Bool). z && eqb (cond_of (s.thread t).call) (cond_of (s.thread t).call)) w)) ∙ sets_b_no (set_e (row_of s t).action) f ∙ sym (woken_set (row_of s t).line (s.thread u) (s.counts (cond_of (s.thread t).call)) (cond_of (s.thread t).call))))
       (λ q e. rw q (sets_b_rest (set_e (row_of s t).action) (row_of s t).line f (in_set_of (s.thread u) (s.counts (cond_of (s.thread t).call)) (cond_of (s.thread t).call)) wk w))
 
@@ -264,7 +265,7 @@ module _ (s : NubState) (t : ℕ) (k : List ℕ) (inv : Inv s) (inv' : Inv (does
           ∙ four (in_set (s.thread t).stage (s.thread t).call.kind (seen s t).same) (is_stand at_cond (marks (row_of s t).next).line) (is_between (s.thread t).stage (s.thread t).call.kind) (is_between (row_of s t).next (s.thread t).call.kind) (seen s t).same (eqb (moved (row_of s t) (s.counts (cond_of (s.thread t).call)) (s.thread t)).kept n) (wake_no w)
 
   not_freed : (u : ℕ) → is_between (s.thread u).stage (s.thread u).call.kind ≡ true → eqb (cond_of (s.thread u).call) (cond_of (s.thread t).call) ≡ true → eqb (s.thread u).kept (suc (s.counts (cond_of (s.thread t).call))) ≡ false
-  not_freed u b e = later (s.thread u).kept (s.counts (cond_of (s.thread t).call)) (subst (λ (z : ℕ). (s.thread u).kept ≤ s.counts z) (eqb_eq (cond_of (s.thread u).call) (cond_of (s.thread t).call) e) (inv.kept u b))
+  not_freed u b e = later (s.thread u).kept (s.counts (cond_of (s.thread t).call)) (subst (λ (z : ℕ). (s.thread u).kept ≤ s.counts z) (eqb-true (cond_of (s.thread u).call) (cond_of (s.thread t).call) e) (inv.kept u b))
 
   wake_rest : (u : ℕ) → signals (row_of s t).line ≡ true → elem u k ≡ false
       → sets_b (set_e (row_of s t).action) true false (between_on (s.thread u) (cond_of (s.thread t).call) && eqb (s.thread u).kept (s.counts (cond_of (s.thread t).call))) (in_set_of (s.thread u) (s.counts (cond_of (s.thread t).call)) (cond_of (s.thread t).call)) ≡ in_set_of (s.thread u) (suc (s.counts (cond_of (s.thread t).call))) (cond_of (s.thread t).call)
@@ -302,7 +303,7 @@ module _ (s : NubState) (t : ℕ) (k : List ℕ) (inv : Inv s) (inv' : Inv (does
       by_sort (λ h. sets_b (set_e (row_of s t).action) true (eqb t u) (freed_by s (cond_of (s.thread t).call) k u) (in_set_of (s.thread u) (s.counts (cond_of (s.thread t).call)) (cond_of (s.thread t).call)) ≡ in_set_of h (suc (s.counts (cond_of (s.thread t).call))) (cond_of (s.thread t).call)) (eqb t u) (elem u k) (moved (row_of s t) (s.counts (cond_of (s.thread t).call)) (s.thread t)) (woken (row_of s t).line (s.thread u)) (s.thread u)
       (λ q.
       ap (λ (z : Bool). sets_b (set_e (row_of s t).action) true (eqb t u) (freed_by s (cond_of (s.thread t).call) k u) z)
-      (subst (λ (z : ℕ). in_set_of (s.thread z) (s.counts (cond_of (s.thread t).call)) (cond_of (s.thread t).call) ≡ false) (eqb_eq t u q) (set_of (s.thread t) (s.counts (cond_of (s.thread t).call)) ∙ earliest (in_set (s.thread t).stage (s.thread t).call.kind (seen s t).same) (in_set (row_of s t).next (s.thread t).call.kind (seen s t).same) (is_between (s.thread t).stage (s.thread t).call.kind) (is_between (row_of s t).next (s.thread t).call.kind) (wake_no w)))
+      (subst (λ (z : ℕ). in_set_of (s.thread z) (s.counts (cond_of (s.thread t).call)) (cond_of (s.thread t).call) ≡ false) (eqb-true t u q) (set_of (s.thread t) (s.counts (cond_of (s.thread t).call)) ∙ earliest (in_set (s.thread t).stage (s.thread t).call.kind (seen s t).same) (in_set (row_of s t).next (s.thread t).call.kind (seen s t).same) (is_between (s.thread t).stage (s.thread t).call.kind) (is_between (row_of s t).next (s.thread t).call.kind) (wake_no w)))
       ∙ sets_b_wake_no (set_e (row_of s t).action) (row_of s t).line (eqb t u) (freed_by s (cond_of (s.thread t).call) k u) wk w
       ∙ sym (wake_self (suc (s.counts (cond_of (s.thread t).call))) w))
       (λ q e.
@@ -353,7 +354,7 @@ module _ (s : NubState) (t : ℕ) (k : List ℕ) (inv : Inv s) (inv' : Inv (does
           ∙ off_y i u p
       go true p =
           ap (λ (z : Bool). sets_b (set_e (row_of s t).action) z (eqb t u) (bit (report_of s t (row_of s t) k).mask u) (in_set_of (s.thread u) (s.counts i) i)) p
-          ∙ subst (λ (z : ℕ). sets_b (set_e (row_of s t).action) true (eqb t u) (bit (report_of s t (row_of s t) k).mask u) (in_set_of (s.thread u) (s.counts z) z) ≡ in_set_of ((does s t (row_of s t) k).thread u) ((does s t (row_of s t) k).counts z) z) (eqb_eq (cond_of (s.thread t).call) i p) (at_y (signals (row_of s t).line) refl)
+          ∙ subst (λ (z : ℕ). sets_b (set_e (row_of s t).action) true (eqb t u) (bit (report_of s t (row_of s t) k).mask u) (in_set_of (s.thread u) (s.counts z) z) ≡ in_set_of ((does s t (row_of s t) k).thread u) ((does s t (row_of s t) k).counts z) z) (eqb-true (cond_of (s.thread t).call) i p) (at_y (signals (row_of s t).line) refl)
 
   -- the freed of a signal
   pub freed_in_lem : signals (row_of s t).line ≡ true → (u : ℕ) → bit (report_of s t (row_of s t) k).mask u ≡ true → read_waits s (cond_of (s.thread t).call) u ≡ true

@@ -1,6 +1,6 @@
 -- Small facts on tests and lists of thread numbers.
-use Rattle.std.proofs.Common.{◌≡◌, ℕ, Bool, true, false, cond, not, ◌&&◌, ◌||◌, T, eqb, List, [], ◌∷◌, ◌++◌, sym, refl, ap, ◌∙◌, subst, arith, eqb→eq}
-use lib.Dec.{eqb_refl}
+use Rattle.std.proofs.Common.{◌≡◌, ℕ, Bool, true, false, cond, not, ◌&&◌, ◌||◌, T, eqb, List, [], ◌∷◌, ◌++◌, sym, refl, ap, ◌∙◌, arith}
+use Rattle.std.proofs.lemmas.Bool.{eq-eqb, eqb-true}
 use Rattle.runs.specs.Reading.{stands_by}
 use Rattle.stages.specs.Calls.{Object, same_object, elem, without, Request}
 use Rattle.stages.specs.Calls.Object.{mutex, semaphore, condition}
@@ -19,30 +19,21 @@ pub of_t : (b : Bool) → T b → b ≡ true
 of_t true h = refl
 of_t false h = absurd h
 
-pub eqb_eq : (a b : ℕ) → eqb a b ≡ true → a ≡ b
-eqb_eq a b h = eqb→eq a b (to_t (eqb a b) h)
-
-pub eqb_same : (a : ℕ) → eqb a a ≡ true
-eqb_same a = of_t (eqb a a) (eqb_refl a)
-
-pub eqb_of : (a b : ℕ) → a ≡ b → eqb a b ≡ true
-eqb_of a b e = subst (λ (z : ℕ). eqb a z ≡ true) e (eqb_same a)
-
 pub same_object_lem : (a b : Object) → same_object a b ≡ true → a ≡ b
-same_object_lem (mutex a) (mutex b) h = ap mutex (eqb_eq a b h)
+same_object_lem (mutex a) (mutex b) h = ap mutex (eqb-true a b h)
 same_object_lem (mutex a) (semaphore b) h = no h
 same_object_lem (mutex a) (condition b) h = no h
 same_object_lem (semaphore a) (mutex b) h = no h
-same_object_lem (semaphore a) (semaphore b) h = ap semaphore (eqb_eq a b h)
+same_object_lem (semaphore a) (semaphore b) h = ap semaphore (eqb-true a b h)
 same_object_lem (semaphore a) (condition b) h = no h
 same_object_lem (condition a) (mutex b) h = no h
 same_object_lem (condition a) (semaphore b) h = no h
-same_object_lem (condition a) (condition b) h = ap condition (eqb_eq a b h)
+same_object_lem (condition a) (condition b) h = ap condition (eqb-true a b h)
 
 pub object_same : (a : Object) → same_object a a ≡ true
-object_same (mutex a) = eqb_same a
-object_same (semaphore a) = eqb_same a
-object_same (condition a) = eqb_same a
+object_same (mutex a) = eq-eqb a a refl
+object_same (semaphore a) = eq-eqb a a refl
+object_same (condition a) = eq-eqb a a refl
 
 pub elem_join : (u t : ℕ) (l : List ℕ) → elem u (l ++ (t ∷ [])) ≡ (elem u l || eqb t u)
 elem_join u t [] = mathlib.Core.Bool.or-false (eqb t u)
@@ -58,9 +49,9 @@ elem_without f u (x ∷ l) = go (f x) (eqb x u) refl refl (elem_without f u l)
   where
     go : (a b : Bool) → f x ≡ a → eqb x u ≡ b → elem u (without f l) ≡ (not (f u) && elem u l)
         → elem u (cond a (without f l) (x ∷ without f l)) ≡ (not (f u) && (b || elem u l))
-    go true true p q ih = let e : f u ≡ true = ap f (sym (eqb_eq x u q)) ∙ p in rw ih (rw e)
+    go true true p q ih = let e : f u ≡ true = ap f (sym (eqb-true x u q)) ∙ p in rw ih (rw e)
     go true false p q ih = ih
-    go false true p q ih = let e : f u ≡ false = ap f (sym (eqb_eq x u q)) ∙ p in rw (q, e)
+    go false true p q ih = let e : f u ≡ false = ap f (sym (eqb-true x u q)) ∙ p in rw (q, e)
     go false false p q ih = rw q ih
 
 abbrev pub in_new : LineEffect → Bool → Bool → Bool → Bool
@@ -132,21 +123,9 @@ pub stood_self : (e : LineEffect) (m n : Stands) (c : Request) (o : Object) (ek 
     → cond (same_object (line_at e c) o) (in_new e true ek (stands_by m c o)) (stands_by m c o) ≡ stands_by n c o
 stood_self e m n c o ek h = grind arith
 
-pub and_in : (a b : Bool) → a ≡ true → b ≡ true → (a && b) ≡ true
-and_in true b p q = q
-and_in false b p q = p
-
-pub not_in : (a : Bool) → a ≡ false → not a ≡ true
-not_in true p = sym p
-not_in false p = refl
-
 pub or_else : (a b : Bool) → (a || b) ≡ true → a ≡ false → b ≡ true
 or_else true b p q = no (sym q)
 or_else false b p q = p
-
-pub not_out : (a : Bool) → not a ≡ true → a ≡ false
-not_out true p = sym p
-not_out false p = refl
 
 pub clash : {A : Type 0} {b : Bool} → b ≡ true → b ≡ false → A
 clash p q = no (sym q ∙ p)

@@ -1,5 +1,6 @@
 -- A built nub has the invariant, and a granted submission keeps it.
 use Rattle.std.proofs.Common.{◌≡◌, ℕ, ◌≤◌, Bool, true, false, cond, not, ◌&&◌, eqb, ltb, Some as some, None as none, Option, sym, refl, ap, ◌∙◌, subst, arith}
+use Rattle.std.proofs.lemmas.Bool.{eqb-true}
 use Rattle.stages.specs.Calls.{Object, gate_of, cond_of, same_object, elem, is_this, Request}
 use Rattle.stages.specs.Names.{call_no, is_idle, CallKind}
 use Rattle.stages.specs.declared.stage.Stage.{Stage}
@@ -13,7 +14,7 @@ use Rattle.stages.specs.Names.CallKind.{NoCall, Acquire, Release, Wait, Signal, 
 use Rattle.runs.specs.Reading.{on_way}
 use Rattle.stages.proofs.Finite.{imp_at, no, and_l}
 use Rattle.stages.specs.Pairs.{fits}
-use Rattle.runs.proofs.Small.{eqb_eq, clash}
+use Rattle.runs.proofs.Small.{clash}
 use Rattle.runs.specs.Reading.{stands_by}
 use Rattle.runs.proofs.Agree.{idle_is, first_fit, first_line_lem, first_spin, first_quit, first_between, first_owns, owns_now, is_quit}
 use Rattle.runs.proofs.Inv.{Inv, stands_at}
@@ -52,7 +53,7 @@ not_out' false h = sym h
 
 this_is : (t : ℕ) (o : Option ℕ) → is_this t o ≡ true → o ≡ some t
 this_is t none h = no h
-this_is t (some u) h = ap some (sym (eqb_eq t u h))
+this_is t (some u) h = ap some (sym (eqb-true t u h))
 
 owner_lem : (a b : Bool) → (a && not b) ≡ false → a ≡ true → b ≡ true
 owner_lem true b h p = not_out' b h
@@ -97,7 +98,7 @@ submitted_inv s t c inv gr =
     record {
       fit = λ u. by_one (λ h. fits h.stage h.call.kind ≡ true) (eqb t u) new (s.thread u) (λ p. first_fit c.kind) (λ p. inv.fit u);
       inside = λ u. by_one (λ h. is_idle h.stage ≡ false → ltb u s.size ≡ true) (eqb t u) new (s.thread u)
-          (λ p i. subst (λ (z : ℕ). ltb z s.size ≡ true) (eqb_eq t u p) gr.thread!) (λ p i. inv.inside u i);
+          (λ p i. subst (λ (z : ℕ). ltb z s.size ≡ true) (eqb-true t u p) gr.thread!) (λ p i. inv.inside u i);
       stood = λ o u. by_one (λ h. elem u (s.line o) ≡ stands_at h o) (eqb t u) new (s.thread u)
           (λ p. inv.stood o u
           ∙ ap (λ (z : Stage). stands_by (marks z).line (s.thread u).call o) (was u p)
@@ -110,7 +111,7 @@ submitted_inv s t c inv gr =
       );
       owned = inv.owned;
       owner = λ u. by_one (λ h. owns_now h.stage h.call.kind ≡ true → s.owners h.call.x ≡ some u) (eqb t u) new (s.thread u)
-          (λ p i. gr.owner! (imp_at (owns_now (first c.kind) c.kind) (needs_owner c.kind) (first_owns c.kind) i) ∙ ap some (eqb_eq t u p))
+          (λ p i. gr.owner! (imp_at (owns_now (first c.kind) c.kind) (needs_owner c.kind) (first_owns c.kind) i) ∙ ap some (eqb-true t u p))
           (λ p i. inv.owner u i);
       quits = λ u. by_one (λ h. is_quit h.stage ≡ true → s.flags u ≡ true) (eqb t u) new (s.thread u)
           (λ p i. clash i (first_quit c.kind)) (λ p i. inv.quits u i);
@@ -123,7 +124,7 @@ submitted_inv s t c inv gr =
     new = record { stage = first c.kind; call = c; kept = (s.thread t).kept; out = (s.thread t).out }
 
     was : (u : ℕ) → eqb t u ≡ true → (s.thread u).stage ≡ Idle
-    was u p = idle_is (s.thread u).stage (subst (λ (z : ℕ). is_idle (s.thread z).stage ≡ true) (eqb_eq t u p) gr.idle!)
+    was u p = idle_is (s.thread u).stage (subst (λ (z : ℕ). is_idle (s.thread z).stage ≡ true) (eqb-true t u p) gr.idle!)
 
     keep : (o : Object) (w : ℕ) → on_way (s.thread w) o ≡ true → on_way (cond (eqb t w) new (s.thread w)) o ≡ true
     keep o w h =

@@ -1,4 +1,4 @@
-//! The theorem as laws over the definitions. What these functions return means nothing: their contracts are the laws.
+//! The theorem as laws over the definitions: the functions do nothing, and their contracts are the laws.
 ghost use Rattle.runs.specs.Runs.{RunsConform};
 ghost use Rattle.runs.specs.Replay.{RunsOver};
 ghost use Rattle.runs.specs.Cases.{CasesHold};
@@ -6,22 +6,17 @@ ghost use Rattle.runs.specs.Cases.{CasesHold};
 use lines::set::LineSet;
 
 /// Every run by the rules conforms, whoever is taken at each take.
-pub fn runs_conform() -> u8
+#[tactic(auto, using(crate::proofs::Main::runs_conform))]
+pub fn runs_conform()
     ensures { RunsConform }
-{
-    0
-}
+{}
 
 /// Every run of a nub over lines of the kind `L` conforms, on every build.
-pub fn runs_over<L: LineSet>() -> u8
+pub fn runs_over<L: LineSet>()
     ensures { RunsOver L.LineSet.kind }
-{
-    0
-}
+{}
 
 /// The worked cases, each alone on a new nub.
-pub fn cases_hold() -> u8
+pub fn cases_hold()
     ensures { CasesHold }
-{
-    0
-}
+{}

@@ -9,14 +9,7 @@ use lines::ranked::Ranked;
 use std::alloc::{AllocError, Global};
 use text::run::run;
 
-// What is written of the script, on first-come lines after N and on ranked lines after K.
-fn ran(heap: Global, input: &[u8]) -> Result<Vec<u8>, AllocError>
-    ensures { IfOk result (λ v. v.items ≡ written input.now) }
-{
-    run::<On<FirstCome>, On<Ranked>>(heap, input)
-}
-
-/// What is written of the script `input`, or want of memory.
+/// What is written of the script `input`, on first-come lines after N and on ranked lines after K, or want of memory.
 ///
 /// The bytes are those of the definition (`text`), and they are what a nub answers along a right run of the
 /// submissions and turns in the script (`run`).
@@ -24,5 +17,5 @@ pub fn run_script(heap: Global, input: &[u8]) -> Result<Vec<u8>, AllocError>
     ensures text { IfOk result (λ v. v.items ≡ written input.now) }
     ensures run { IfOk result (λ v. Played input.now v.items) }
 {
-    ran(heap, input)
+    run::<On<FirstCome>, On<Ranked>>(heap, input)
 }

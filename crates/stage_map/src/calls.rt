@@ -1,99 +1,81 @@
 //! Sets of calls.
-use crate::canvas::Canvas;
-use crate::names::*;
+ghost use Rattle.std.specs.Prelude.{◌≡◌, ◌↔◌, IsTrue, OnOk, Contains, [], vec_len};
+ghost use Rattle.stages.specs.declared.call.Call.{Call};
 
-/// A set of calls, by their place in `CALLS`.
-#[derive(Clone, Copy)]
-pub struct Calls {
-    of: [bool; 11],
-}
+use crate::names::*;
+use stages::call::Call;
+use std::alloc::{AllocError, Global};
+
+/// A set of calls, eleven at the most. A `Vec`, since calls have no order to sort them by.
+#[derive(Drop)]
+pub struct Calls(Vec<Call>);
 
 impl Calls {
-    pub(crate) fn none() -> Calls {
-        Calls { of: [false; 11] }
+    pub(crate) fn none(alloc: Global) -> Calls
+        ensures { result.0.items ≡ [] }
+    {
+        Calls(Vec::new(alloc))
     }
 
-    pub(crate) fn has(self, i: usize) -> bool {
-        i < self.of.len() && self.of[i]
+    fn has(&self, call: Call) -> bool
+        ensures { IsTrue result ↔ Contains self.now.0.items call }
+    {
+        self.0.contains(&call)
     }
 
-    pub(crate) fn add(&mut self, i: usize) {
-        if i < self.of.len() {
-            self.of[i] = true;
+    pub(crate) fn add(&mut self, call: Call) -> Result<(), AllocError>
+        ensures added { OnOk result (Contains self.new.0.items call) }
+        ensures kept { (other : Call) → Contains self.old.0.items other → Contains self.new.0.items other }
+    {
+        if !self.has(call) {
+            self.0.push(call)?;
         }
+        Ok(())
     }
 
-    pub(crate) fn add_all(&mut self, more: Calls) {
-        for i in 0..CALLS.len() {
-            if more.has(i) {
-                self.add(i);
-            }
-        }
-    }
-
-    pub(crate) fn count(self) -> usize {
-        let mut n: usize = 0;
-        for i in 0..CALLS.len() {
-            if self.has(i) {
-                n = n.saturating_add(1);
-            }
-        }
-        n
+    pub(crate) fn len(&self) -> usize
+        ensures { result ≡ vec_len self.now.0 }
+    {
+        self.0.len()
     }
 
     /// The calls here that are not there.
-    pub(crate) fn without(self, there: Calls) -> Calls {
-        let mut left = Calls::none();
-        for i in 0..CALLS.len() {
-            if self.has(i) && !there.has(i) {
-                left.add(i);
-            }
-        }
-        left
+    fn without(&self, there: &Calls) -> Result<Calls, AllocError> {
+        let left = self.0.iter().copied().filter(|call| !there.has(*call));
+        Ok(Calls(left.collect(*self.0.allocator())?))
     }
 
-    /// Draws their names, and gives the column after them.
-    pub(crate) fn draw(self, page: &mut Canvas, row: usize, column: usize) -> usize {
-        let mut at = column;
-        for (i, call) in CALLS.iter().enumerate() {
-            if self.has(i) {
-                if at > column {
-                    at = page.text(row, at, ", ");
-                }
-                at = page.text(row, at, call_name(*call));
-            }
-        }
-        at
+    /// Whether all calls there are here.
+    pub(crate) fn covers(&self, there: &Calls) -> bool {
+        there.0.iter().all(|call| self.has(*call))
+    }
+
+    /// Their names, in the order of the calls' codes.
+    pub(crate) fn names(&self, alloc: Global) -> Result<String, AllocError> {
+        let names: Vec<&str> = CALLS
+            .iter()
+            .filter(|(call, _)| self.has(*call))
+            .map(|(_, name)| *name)
+            .collect(alloc)?;
+        names.as_slice().join(alloc, ", ")
     }
 
     /// The same in short, where `all` are those that there can be: nothing for all of them, and who is left out where that is one
     /// alone.
-    pub(crate) fn draw_among(
-        self,
-        all: Calls,
-        page: &mut Canvas,
-        row: usize,
-        column: usize,
-    ) -> usize {
-        let left = all.without(self);
-        match left.count() {
-            0 => column,
-            1 if self.count() > 1 => {
-                let at = page.text(row, column, "not ");
-                left.draw(page, row, at)
-            }
-            _ if self.is_waits() => page.text(row, column, "a wait"),
-            _ => self.draw(page, row, column),
+    pub(crate) fn names_among(&self, all: &Calls, alloc: Global) -> Result<String, AllocError> {
+        let left = all.without(self)?;
+        match left.len() {
+            0 => Ok(String::new(alloc)),
+            1 if self.len() > 1 => format!(in alloc; "not {}", left.names(alloc)?),
+            _ if self.is_waits() => String::from_str(alloc, "a wait"),
+            _ => self.names(alloc),
         }
     }
 
     // Wait and AlertWait, no more and no less.
-    fn is_waits(self) -> bool {
-        for (i, call) in CALLS.iter().enumerate() {
-            if self.has(i) != is_wait(*call) {
-                return false;
-            }
-        }
-        true
+    fn is_waits(&self) -> bool {
+        CALLS
+            .iter()
+            .all(|(call, _)| self.has(*call) == is_wait(*call))
     }
 }

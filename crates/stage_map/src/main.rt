@@ -3,29 +3,25 @@
 
 mod arrows;
 mod calls;
-mod canvas;
 mod edge;
 mod names;
+mod page;
 mod paths;
 mod picture;
 mod probe;
 mod reach;
-mod rows;
 mod seen;
 mod table;
 mod walk;
 
-use rows::Map;
+use arrows::Map;
 use std::io;
 
 fn main(rt: HostRuntime) -> io::Result<()> {
-    let map = Map::explored();
-    if !map.is_whole() {
-        println!(rt; "a stage has more rows than there is room for")?;
-    }
-    table::print(&rt, &map)?;
-    println!(rt; "")?;
-    paths::print(&rt, &map)?;
-    println!(rt; "")?;
-    walk::print(&rt)
+    let alloc = rt.alloc();
+    let map = Map::explored(alloc)?;
+    let table = table::text(alloc, &map)?;
+    let paths = paths::text(alloc, &map)?;
+    let walks = walk::text(alloc)?;
+    print!(rt; "{table}\n{paths}\n{walks}")
 }

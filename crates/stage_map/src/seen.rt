@@ -1,8 +1,12 @@
 //! What a turn can look at, and cases over it.
-use crate::canvas::Canvas;
+ghost use Rattle.std.specs.Prelude.{◌≡◌, ◌↔◌, IsTrue, Some, true, IfOk};
+ghost use Rattle.std.specs.BTreeMap.{get, IsEmpty, Updates};
+
+use std::alloc::{AllocError, Global};
+use std::collections::BTreeMap;
 
 /// A thing that a turn can look at. Each is off or on.
-#[derive(Clone, Copy)]
+#[derive(Clone, Copy, PartialEq, Eq, PartialOrd, Ord)]
 pub enum Thing {
     /// The spin bit.
     Spin,
@@ -18,6 +22,7 @@ pub enum Thing {
     Alerted,
 }
 
+/// The things, in their order. No form lists the values of an enum.
 pub const THINGS: [Thing; 6] = [
     Thing::Spin,
     Thing::Bit,
@@ -30,126 +35,108 @@ pub const THINGS: [Thing; 6] = [
 impl Thing {
     /// How a case says that it is off or on.
     pub(crate) fn words(self, on: bool) -> &'static str {
-        match (self, on) {
-            (Thing::Spin, false) => "spin 0",
-            (Thing::Spin, true) => "spin 1",
-            (Thing::Bit, false) => "bit 0",
-            (Thing::Bit, true) => "bit 1",
-            (Thing::Empty, false) => "member",
-            (Thing::Empty, true) => "empty",
-            (Thing::Other, false) => "same count",
-            (Thing::Other, true) => "other count",
-            (Thing::Flag, false) => "flag 0",
-            (Thing::Flag, true) => "flag 1",
-            (Thing::Alerted, false) => "signalled",
-            (Thing::Alerted, true) => "alerted",
-        }
+        let (off_words, on_words) = match self {
+            Thing::Spin => ("spin 0", "spin 1"),
+            Thing::Bit => ("bit 0", "bit 1"),
+            Thing::Empty => ("member", "empty"),
+            Thing::Other => ("same count", "other count"),
+            Thing::Flag => ("flag 0", "flag 1"),
+            Thing::Alerted => ("signalled", "alerted"),
+        };
+        if on { on_words } else { off_words }
     }
-}
-
-/// How many ways there are for all things together.
-pub const WAYS: usize = 64;
-
-/// How many of them leave the flag and the outcome off, which a record has of its own.
-pub const SIGHTS: usize = 16;
-
-/// Each thing off or on.
-#[derive(Clone, Copy)]
-pub struct Seen {
-    of: [bool; 6],
-}
-
-impl Seen {
-    /// The way of this number: thing i is on where the number has bit i.
-    pub(crate) fn way(n: usize) -> Seen {
-        Seen {
-            of: [
-                n % 2 == 1,
-                n / 2 % 2 == 1,
-                n / 4 % 2 == 1,
-                n / 8 % 2 == 1,
-                n / 16 % 2 == 1,
-                n / 32 % 2 == 1,
-            ],
-        }
-    }
-
-    pub(crate) fn has(self, thing: Thing) -> bool {
-        self.of[thing as usize]
-    }
-}
-
-/// The way that differs from way `n` in one thing, which is off there.
-pub(crate) fn turned_on(n: usize, thing: Thing) -> usize {
-    let bit = match thing {
-        Thing::Spin => 1,
-        Thing::Bit => 2,
-        Thing::Empty => 4,
-        Thing::Other => 8,
-        Thing::Flag => 16,
-        Thing::Alerted => 32,
-    };
-    n.saturating_add(bit)
 }
 
 /// Some things off or on, the others either.
-#[derive(Clone, Copy, PartialEq, Eq)]
-pub struct Case {
-    of: [Option<bool>; 6],
-}
+#[derive(Drop, PartialEq, Eq)]
+pub struct Case(BTreeMap<Thing, bool>);
 
 impl Case {
     /// Whatever is seen.
-    pub(crate) fn always() -> Case {
-        Case { of: [None; 6] }
+    pub(crate) fn always(alloc: Global) -> Case
+        ensures { IsEmpty result.0 }
+    {
+        Case(BTreeMap::new(alloc))
     }
 
-    pub(crate) fn at(self, thing: Thing) -> Option<bool> {
-        self.of[thing as usize]
+    /// The same with one thing off or on.
+    pub(crate) fn with(&self, thing: Thing, on: bool) -> Result<Case, AllocError>
+        ensures { IfOk result (λ case. Updates ⟦<Thing as Ord>⟧.cmp self.now.0 case.0 thing (Some on)) }
+    {
+        let mut more = self.0.clone()?;
+        more.insert(thing, on)?;
+        Ok(Case(more))
     }
 
-    /// The same with one thing more.
-    pub(crate) fn with(self, thing: Thing, on: bool) -> Case {
-        let mut of = self.of;
-        of[thing as usize] = Some(on);
-        Case { of }
+    fn at(&self, thing: Thing) -> Option<bool>
+        ensures { result ≡ get ⟦<Thing as Ord>⟧.cmp self.now.0 thing }
+    {
+        self.0.get(&thing).copied()
     }
 
-    pub(crate) fn fits(self, seen: Seen) -> bool {
-        for thing in THINGS {
-            if let Some(on) = self.at(thing) {
-                if seen.has(thing) != on {
-                    return false;
-                }
-            }
-        }
-        true
+    /// Whether it says that a thing is on.
+    pub(crate) fn has(&self, thing: Thing) -> bool
+        ensures { IsTrue result ↔ (get ⟦<Thing as Ord>⟧.cmp self.now.0 thing ≡ Some true) }
+    {
+        self.at(thing) == Some(true)
+    }
+
+    /// Whether another case says all that this one says.
+    pub(crate) fn fits(&self, other: &Case) -> bool {
+        self.0
+            .iter()
+            .all(|(thing, on)| other.at(*thing) == Some(*on))
+    }
+
+    /// Whether another case says another thing of this thing, and the same of all others.
+    pub(crate) fn differs_at(&self, thing: Thing, other: &Case) -> bool {
+        THINGS
+            .iter()
+            .all(|at| (self.at(*at) == other.at(*at)) == (*at != thing))
     }
 
     /// What both say.
-    pub(crate) fn common(self, other: Case) -> Case {
-        let mut both = Case::always();
-        for thing in THINGS {
-            if let (Some(a), Some(b)) = (self.at(thing), other.at(thing)) {
-                if a == b {
-                    both = both.with(thing, a);
-                }
-            }
-        }
-        both
+    pub(crate) fn common(&self, other: &Case) -> Result<Case, AllocError> {
+        let mut both = self.0.clone()?;
+        both.retain(|thing, on| other.at(*thing) == Some(*on));
+        Ok(Case(both))
     }
 
-    /// Draws its words, and gives the column after them.
-    pub(crate) fn draw(self, page: &mut Canvas, row: usize, column: usize) -> usize {
-        let mut at = column;
+    /// All cases split by each thing in turn that tells of the case so far.
+    pub(crate) fn split<F: Fn(&Case, Thing) -> bool>(
+        alloc: Global,
+        tells: F,
+    ) -> Result<Vec<Case>, AllocError>
+        requires { F.IsAlwaysCallable tells }
+    {
+        let mut cases = vec![in alloc; Case::always(alloc)]?;
         for thing in THINGS {
-            if let Some(on) = self.at(thing) {
-                if at > column {
-                    at = page.text(row, at, ", ");
+            let mut finer = Vec::new(alloc);
+            for case in cases {
+                if tells(&case, thing) {
+                    finer.push(case.with(thing, false)?)?;
+                    finer.push(case.with(thing, true)?)?;
+                } else {
+                    finer.push(case)?;
                 }
-                at = page.text(row, at, thing.words(on));
             }
+            cases = finer;
         }
-        at
+        Ok(cases)
     }
+
+    /// Its words.
+    pub(crate) fn words(&self, alloc: Global) -> Result<String, AllocError> {
+        let words: Vec<&str> = self
+            .0
+            .iter()
+            .map(|(thing, on)| thing.words(*on))
+            .collect(alloc)?;
+        words.as_slice().join(alloc, ", ")
+    }
+}
+
+/// All ways in which a turn can see things: the cases that leave none open.
+pub(crate) fn ways(alloc: Global) -> Result<Vec<Case>, AllocError> {
+    Case::split(alloc, |_, _| true)
 }

@@ -1,24 +1,8 @@
 //! The table of the stages: number, name, marks, calls, and the rows.
-use crate::arrows::Arrows;
+use crate::arrows::*;
 use crate::calls::Calls;
-use crate::canvas::Canvas;
-use crate::edge::Edge;
-use crate::names::*;
-use crate::rows::*;
 use stages::marks::*;
-use stages::stage::Stage;
-use std::io;
-
-// Where the parts of a line begin.
-const NAME: usize = 4;
-
-const SPIN: usize = 15;
-
-const LINE: usize = 25;
-
-const WAY: usize = 47;
-
-const CALLS_AT: usize = 60;
+use std::alloc::{AllocError, Global};
 
 // Where a thread stands, in words.
 fn stands(line: Stands) -> &'static str {
@@ -29,86 +13,73 @@ fn stands(line: Stands) -> &'static str {
     }
 }
 
-fn draw_edge(page: &mut Canvas, row: usize, column: usize, edge: Edge) -> usize {
-    let at = page.text(row, column, " -> ");
-    let at = page.text(row, at, stage_name(edge.next));
-    let at = if edge.action == 0 {
-        page.text(row, at, " (no action, ")
-    } else {
-        let at = page.text(row, at, " (action ");
-        let at = page.number(row, at, edge.action);
-        page.text(row, at, ", ")
-    };
-    let at = page.text(row, at, status_name(edge.status));
-    let at = if edge.value == 1 {
-        page.text(row, at, ", value 1")
-    } else {
-        at
-    };
-    page.text(row, at, ")")
-}
-
-fn draw_row(page: &mut Canvas, line: usize, row: Row, all: Calls) {
-    match row.how {
-        How::Turn(case) => {
-            let at = case.draw(page, line, NAME + 2);
-            let at = if at == NAME + 2 {
-                page.text(line, at, "always")
-            } else {
-                at
-            };
-            draw_edge(page, line, at, row.edge);
-        }
-        How::Taken => {
-            let at = page.text(line, NAME + 2, "taken -> ");
-            page.text(line, at, stage_name(row.edge.next));
-        }
-    }
-    row.calls.draw_among(all, page, line, CALLS_AT);
-}
-
 fn yes(b: bool) -> &'static str {
     if b { "yes" } else { "-" }
 }
 
-fn print_stage(rt: &HostRuntime, map: &Map, stage: Stage) -> io::Result<()> {
-    let mut page = Canvas::new();
+// A line of the table: what comes first, and calls at their column.
+fn add_line(table: &mut String, first: &str, calls: &str) -> Result<(), AllocError> {
+    let line = format!(in *table.allocator(); "{first:<60}{calls}")?;
+    writeln!(table, "{}", line.as_str().trim_end())
+}
+
+fn add_row(table: &mut String, alloc: Global, row: &Row, all: &Calls) -> Result<(), AllocError> {
+    let case = row.case.words(alloc)?;
+    let case = if case.is_empty() {
+        "always"
+    } else {
+        case.as_str()
+    };
+    let edge = row.edge;
+    let first = format!(in alloc; "      {case} -> {edge}")?;
+    let calls = row.calls.names_among(all, alloc)?;
+    add_line(table, first.as_str(), calls.as_str())
+}
+
+fn add_stage(table: &mut String, alloc: Global, arrows: &Arrows) -> Result<(), AllocError> {
+    let stage = arrows.stage;
     let mark = mark_of(stage);
-    page.number(0, if stage.number() < 10 { 1 } else { 0 }, stage.number());
-    page.text(0, NAME, stage_name(stage));
-    page.text(0, SPIN, yes(mark.spin));
-    page.text(0, LINE, stands(mark.line));
-    page.text(0, WAY, yes(mark.way));
-    let arrows = Arrows::of(map, stage);
-    arrows.calls.draw(&mut page, 0, CALLS_AT);
-    let mut line = 1;
-    for arrow in arrows.as_slice() {
-        for row in map.rows(stage) {
-            if arrow.has(*row) {
-                draw_row(&mut page, line, *row, arrows.calls);
-                line = line.saturating_add(1);
+    let number = u8::from(stage);
+    let name = format!(in alloc; "{stage:?}")?;
+    let spin = yes(mark.spin);
+    let line = stands(mark.line);
+    let way = yes(mark.way);
+    let first = format!(in alloc; "{number:>2}  {name:<11}{spin:<10}{line:<22}{way}")?;
+    add_line(table, first.as_str(), arrows.calls.names(alloc)?.as_str())?;
+    for arrow in &arrows.list {
+        match &arrow.how {
+            How::Turn(_, rows) => {
+                for row in rows {
+                    add_row(table, alloc, row, &arrows.calls)?;
+                }
+            }
+            How::Taken => {
+                let next = arrow.next;
+                let first = format!(in alloc; "      taken -> {next:?}")?;
+                add_line(table, first.as_str(), arrows.whose(alloc, arrow)?.as_str())?;
             }
         }
     }
-    page.print(rt)
+    Ok(())
 }
 
-// How many pairs of a stage and a call meet.
-fn pairs(map: &Map) -> usize {
-    let mut n: usize = 0;
-    for stage in STAGES {
-        n = n.saturating_add(Arrows::of(map, stage).calls.count());
-    }
-    n
-}
+/// The table, and how many pairs of a stage and a call meet.
+pub(crate) fn text(alloc: Global, map: &Map) -> Result<String, AllocError> {
+    let mut table = String::from_str(
+        alloc,
+        "THE STAGES: case -> next stage (action, status), and the calls where not all
 
-/// Prints the table.
-pub(crate) fn print(rt: &HostRuntime, map: &Map) -> io::Result<()> {
-    println!(rt; "THE STAGES: case -> next stage (action, status), and the calls where not all\n")?;
-    println!(rt; "No. Stage      Spin bit  Stands in             On its way   Calls")?;
-    for stage in STAGES {
-        print_stage(rt, map, stage)?;
+No. Stage      Spin bit  Stands in             On its way   Calls
+",
+    )?;
+    for arrows in map.stages() {
+        add_stage(&mut table, alloc, arrows)?;
     }
-    let pairs = pairs(map);
-    println!(rt; "\npairs of a stage and a call that meet: {pairs}")
+    // No `sum`: that it fits is not proved.
+    let pairs = map
+        .stages()
+        .iter()
+        .fold(0usize, |n, arrows| n.saturating_add(arrows.calls.len()));
+    writeln!(table, "\npairs of a stage and a call that meet: {pairs}")?;
+    Ok(table)
 }

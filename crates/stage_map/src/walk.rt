@@ -1,19 +1,17 @@
 //! Whole waits, each walked through by one record: the two ways out, and what decides between them.
-use crate::canvas::Canvas;
-use crate::names::*;
 use crate::probe;
 use crate::reach::*;
 use crate::seen::*;
-use stages::action::Action;
 use stages::call::Call;
 use stages::stage::Stage;
 use stages::step::Step;
-use std::io;
+use std::alloc::{AllocError, Global};
 use thread::record::Thread;
 
 // What a wait meets: another count at Compare, an alert, a signal that takes it at a stage. Nothing else is in its way.
 #[derive(Clone, Copy)]
 struct Plan {
+    title: &'static str,
     call: Call,
     other: bool,
     alert: bool,
@@ -23,83 +21,67 @@ struct Plan {
 // More turns than such a wait has.
 const TURNS: usize = 20;
 
-// The ways with an empty line, and with an empty line and another count.
-const CALM: usize = 4;
-
-const OTHER: usize = 12;
-
 impl Plan {
-    fn takes(self, stage: Stage) -> bool {
-        match self.taken_at {
-            Some(at) => at.number() == stage.number(),
-            None => false,
-        }
+    // What its turns see: an empty line, and another count where it has one.
+    fn sees(self, alloc: Global) -> Result<Case, AllocError> {
+        Case::always(alloc)
+            .with(Thing::Empty, true)?
+            .with(Thing::Other, self.other)
     }
 
     // The record after its turn, with what the turn did, or after it is taken.
-    fn next(self, thread: Thread) -> Option<(Thread, Option<Step>)> {
-        if self.takes(thread.stage()) {
-            let after = taken(thread)?;
-            return Some((after, None));
+    fn next(self, thread: Thread, seen: &Case) -> Option<(Thread, Option<Step>)> {
+        if self.taken_at == Some(thread.stage()) {
+            return Some((taken(thread)?, None));
         }
-        let way = if self.other { OTHER } else { CALM };
-        let (after, step) = turned(thread, sight(thread, Seen::way(way)))?;
+        let (after, step) = turned(thread, sight(thread, seen))?;
         Some((after, Some(step)))
     }
 }
 
-// Draws a stage and the arrow from it, with the number of the action done, and gives the column after it.
-fn draw_step(page: &mut Canvas, column: usize, stage: Stage, step: Option<Step>) -> usize {
-    let at = page.text(0, column, stage_name(stage));
-    let Some(step) = step else {
-        return page.text(0, at, " = taken => ");
-    };
-    let action = Action::number(step.action);
-    if action == 0 {
-        return page.text(0, at, " -> ");
+// A stage and the arrow from it, with the number of the action done.
+fn add_step(line: &mut String, stage: Stage, step: Option<Step>) -> Result<(), AllocError> {
+    match step {
+        None => write!(line, "{stage:?} = taken => "),
+        Some(step) => match step.action {
+            None => write!(line, "{stage:?} -> "),
+            Some(action) => write!(line, "{stage:?} ({}) -> ", action as u8),
+        },
     }
-    let at = page.text(0, at, " (");
-    let at = page.number(0, at, action);
-    page.text(0, at, ") -> ")
 }
 
-// Draws how it ended: what the last turn answered, and the flag that is left.
-fn draw_end(page: &mut Canvas, column: usize, thread: Thread, value: u32) {
-    let at = page.text(0, column, stage_name(thread.stage()));
-    let at = page.text(0, at, ": value ");
-    let at = page.number(0, at, if value == 1 { 1 } else { 0 });
-    let at = page.text(0, at, ", flag ");
-    page.number(0, at, u8::from(probe::flag(thread)));
-}
-
-// Walks a plan, and prints it from Compare on; what comes before is the same in all.
-fn print_walk(rt: &HostRuntime, title: &str, plan: Plan) -> io::Result<()> {
-    println!(rt; "  {title}:")?;
-    let mut page = Canvas::new();
+// A plan walked, from Compare on; what comes before is the same in all. At the end stand what the last turn answered, and the
+// flag that is left.
+fn walk(alloc: Global, plan: Plan) -> Result<String, AllocError> {
+    let seen = plan.sees(alloc)?;
+    let mut line = String::new(alloc);
     let mut thread = Thread::new();
     thread.start(plan.call);
     if plan.alert {
         thread.set_alert();
     }
-    let mut at = 4;
     let mut value = 0;
     for _ in 0..TURNS {
         let stage = thread.stage();
-        if let Some((after, step)) = plan.next(thread) {
-            if stage.number() >= Stage::Compare.number() || at > 4 {
-                at = draw_step(&mut page, at, stage, step);
-            }
-            if let Some(step) = step {
-                value = step.value;
-            }
-            thread = after;
+        let Some((after, step)) = plan.next(thread, &seen) else {
+            break;
+        };
+        if stage == Stage::Compare || !line.is_empty() {
+            add_step(&mut line, stage, step)?;
         }
+        if let Some(step) = step {
+            value = step.value;
+        }
+        thread = after;
     }
-    draw_end(&mut page, at, thread, value);
-    page.print(rt)
+    let stage = thread.stage();
+    let flag = u8::from(probe::flag(thread));
+    write!(line, "{stage:?}: value {value}, flag {flag}")?;
+    Ok(line)
 }
 
 const WAIT: Plan = Plan {
+    title: "Wait, taken by a signal",
     call: Call::Wait(0, 0),
     other: false,
     alert: false,
@@ -107,51 +89,45 @@ const WAIT: Plan = Plan {
 };
 
 const ALERT_WAIT: Plan = Plan {
+    title: "AlertWait, alerted, and no signal before Quit",
     call: Call::AlertWait(0, 0),
     other: false,
     alert: true,
     taken_at: None,
 };
 
-/// Prints the walks.
-pub(crate) fn print(rt: &HostRuntime) -> io::Result<()> {
-    println!(rt; "The same, walked from Compare on\n")?;
-    print_walk(rt, "Wait, taken by a signal", WAIT)?;
-    let other = Plan {
+const PLANS: [Plan; 6] = [
+    WAIT,
+    Plan {
+        title: "Wait, a signal before Compare",
         other: true,
         ..WAIT
-    };
-    print_walk(rt, "Wait, a signal before Compare", other)?;
-    let at_waiting = Plan {
+    },
+    Plan {
+        title: "AlertWait, its alert pending, taken by a signal first",
         taken_at: Some(Stage::Waiting),
         ..ALERT_WAIT
-    };
-    print_walk(
-        rt,
-        "AlertWait, its alert pending, taken by a signal first",
-        at_waiting,
-    )?;
-    let at_quit = Plan {
+    },
+    Plan {
+        title: "AlertWait, its alert seen, still taken by a signal before Quit",
         taken_at: Some(Stage::QuitSpin),
         ..ALERT_WAIT
-    };
-    print_walk(
-        rt,
-        "AlertWait, its alert seen, still taken by a signal before Quit",
-        at_quit,
-    )?;
-    let other = Plan {
+    },
+    Plan {
+        title: "AlertWait, its alert pending, a signal before Compare",
         other: true,
         ..ALERT_WAIT
-    };
-    print_walk(
-        rt,
-        "AlertWait, its alert pending, a signal before Compare",
-        other,
-    )?;
-    print_walk(
-        rt,
-        "AlertWait, alerted, and no signal before Quit",
-        ALERT_WAIT,
-    )
+    },
+    ALERT_WAIT,
+];
+
+/// The walks.
+pub(crate) fn text(alloc: Global) -> Result<String, AllocError> {
+    let mut text = String::from_str(alloc, "The same, walked from Compare on\n\n")?;
+    for plan in PLANS {
+        let title = plan.title;
+        let line = walk(alloc, plan)?;
+        writeln!(text, "  {title}:\n    {line}")?;
+    }
+    Ok(text)
 }

@@ -3,51 +3,39 @@ ghost use Rattle.std.specs.Prelude.{◌≡◌};
 ghost use Rattle.stages.specs.Names.{action_no, status_no};
 
 /// The published actions.
-#[derive(Clone, Copy)]
+#[derive(Clone, Copy, PartialEq, Eq, Debug)]
 pub enum Action {
-    Acquire,
-    Release,
-    Enqueue,
-    Resume,
-    ChooseOutcome,
-    GetMutex,
-    Signal,
-    Broadcast,
-    P,
-    V,
-    Alert,
-    TestAlert,
-    AlertPReturns,
-    AlertPRaises,
+    Acquire = 1,
+    Release = 2,
+    Enqueue = 3,
+    Resume = 4,
+    ChooseOutcome = 5,
+    GetMutex = 6,
+    Signal = 7,
+    Broadcast = 8,
+    P = 9,
+    V = 10,
+    Alert = 11,
+    TestAlert = 12,
+    AlertPReturns = 13,
+    AlertPRaises = 14,
 }
 
 impl Action {
     /// The number that stands for an action outside, and 0 for none.
+    // No `From`: an `impl From<Option<Action>> for u8` would be for no type of this crate.
     pub fn number(action: Option<Action>) -> u8
         ensures { result ≡ action_no action }
     {
         match action {
+            Some(action) => action as u8,
             None => 0,
-            Some(Action::Acquire) => 1,
-            Some(Action::Release) => 2,
-            Some(Action::Enqueue) => 3,
-            Some(Action::Resume) => 4,
-            Some(Action::ChooseOutcome) => 5,
-            Some(Action::GetMutex) => 6,
-            Some(Action::Signal) => 7,
-            Some(Action::Broadcast) => 8,
-            Some(Action::P) => 9,
-            Some(Action::V) => 10,
-            Some(Action::Alert) => 11,
-            Some(Action::TestAlert) => 12,
-            Some(Action::AlertPReturns) => 13,
-            Some(Action::AlertPRaises) => 14,
         }
     }
 }
 
 /// How a turn ended: the call goes on, the thread is parked, it found the spin bit taken, or its call is finished.
-#[derive(Clone, Copy)]
+#[derive(Clone, Copy, PartialEq, Eq, Debug)]
 pub enum Status {
     On,
     Parked,
@@ -55,22 +43,17 @@ pub enum Status {
     Finished,
 }
 
-impl Status {
+impl From<Status> for u8 {
+    ghost from_gives = { λ status n. n ≡ status_no status };
+
     /// The number that stands for a status outside.
-    pub fn number(self) -> u8
-        ensures { result ≡ status_no self }
-    {
-        match self {
-            Status::On => 0,
-            Status::Parked => 1,
-            Status::Spun => 2,
-            Status::Finished => 3,
-        }
+    fn from(status: Status) -> u8 {
+        status as u8
     }
 }
 
 /// Why an AlertWait ended.
-#[derive(Clone, Copy)]
+#[derive(Clone, Copy, PartialEq, Eq, Debug)]
 pub enum Outcome {
     Signalled,
     Alerted,

@@ -6,7 +6,7 @@ ghost use Rattle.stages.specs.Table.{first};
 use crate::stage::Stage;
 
 /// A call under way, with the numbers of its mutex, condition, semaphore or alerted thread.
-#[derive(Clone, Copy)]
+#[derive(Clone, Copy, PartialEq, Eq, Debug)]
 pub enum Call {
     Acquire(usize),
     Release(usize),

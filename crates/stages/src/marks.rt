@@ -5,7 +5,7 @@ ghost use Rattle.stages.specs.Marks.{marks, MarksAgree};
 use crate::stage::Stage;
 
 /// Where a thread stands: in no line, in its gate's line, or in its condition's line.
-#[derive(Clone, Copy)]
+#[derive(Clone, Copy, PartialEq, Eq, Debug)]
 pub enum Stands {
     Nowhere,
     AtGate,
@@ -13,7 +13,7 @@ pub enum Stands {
 }
 
 /// Whether the thread holds the spin bit, in which line it stands, and whether it is on its way to its gate.
-#[derive(Clone, Copy)]
+#[derive(Clone, Copy, PartialEq, Eq, Debug)]
 pub struct Mark {
     pub spin: bool,
     pub line: Stands,
@@ -224,8 +224,6 @@ pub fn mark_of(stage: Stage) -> Mark
 }
 
 /// The marks agree with the turn table, at every stage, for every call, whatever a turn sees.
-pub fn marks_agree() -> u8
+pub fn marks_agree()
     ensures { MarksAgree }
-{
-    0
-}
+{}

@@ -4,7 +4,7 @@ ghost use Rattle.stages.specs.Names.{stage_no, is_idle};
 ghost use Rattle.stages.specs.Table.{reads_bit, reads_line, reads_count};
 
 /// Where a thread is in its call. `Idle` is the stage of a thread that has no call.
-#[derive(Clone, Copy)]
+#[derive(Clone, Copy, PartialEq, Eq, Debug)]
 pub enum Stage {
     Idle,
     Try,
@@ -40,51 +40,41 @@ pub enum Stage {
     Swap,
 }
 
-impl Stage {
-    /// The number of the stage.
-    pub fn number(self) -> u8
-        ensures { result ≡ stage_no self }
-    {
-        self as u8
-    }
+impl From<Stage> for u8 {
+    ghost from_gives = { λ stage n. n ≡ stage_no stage };
 
+    /// The number of the stage.
+    fn from(stage: Stage) -> u8 {
+        stage as u8
+    }
+}
+
+impl Stage {
     /// Whether a thread at this stage has no call.
     pub fn is_idle(self) -> bool
         ensures { result ≡ is_idle self }
     {
-        match self {
-            Stage::Idle => true,
-            _ => false,
-        }
+        self == Stage::Idle
     }
 
     /// Whether a turn at this stage reads the bit of its gate.
     pub fn reads_bit(self) -> bool
         ensures { result ≡ reads_bit self }
     {
-        match self {
-            Stage::Try | Stage::Test => true,
-            _ => false,
-        }
+        matches!(&self, Stage::Try | Stage::Test)
     }
 
     /// Whether a turn at this stage reads whether its gate's line is empty.
     pub fn reads_line(self) -> bool
         ensures { result ≡ reads_line self }
     {
-        match self {
-            Stage::Look => true,
-            _ => false,
-        }
+        self == Stage::Look
     }
 
     /// Whether a turn at this stage reads the count of its condition.
     pub fn reads_count(self) -> bool
         ensures { result ≡ reads_count self }
     {
-        match self {
-            Stage::Read | Stage::Compare => true,
-            _ => false,
-        }
+        matches!(&self, Stage::Read | Stage::Compare)
     }
 }

@@ -2,7 +2,7 @@
 use crate::action::{Action, Status};
 
 /// What a turn sees: the spin bit, the bit of its gate, whether the gate's line is empty, the count of its condition.
-#[derive(Clone, Copy)]
+#[derive(Clone, Copy, PartialEq, Eq, Debug)]
 pub struct Sight {
     pub spin: bool,
     pub bit: bool,
@@ -11,7 +11,7 @@ pub struct Sight {
 }
 
 /// What a turn does to the spin bit.
-#[derive(Clone, Copy)]
+#[derive(Clone, Copy, PartialEq, Eq, Debug)]
 pub enum SpinEffect {
     Keep,
     Set,
@@ -19,7 +19,7 @@ pub enum SpinEffect {
 }
 
 /// What a turn does to the bit and the owner of its gate.
-#[derive(Clone, Copy)]
+#[derive(Clone, Copy, PartialEq, Eq, Debug)]
 pub enum GateEffect {
     Keep,
     Take,
@@ -27,7 +27,7 @@ pub enum GateEffect {
 }
 
 /// What a turn does to the waiting lines.
-#[derive(Clone, Copy)]
+#[derive(Clone, Copy, PartialEq, Eq, Debug)]
 pub enum LineEffect {
     Keep,
     JoinGate,
@@ -40,7 +40,7 @@ pub enum LineEffect {
 }
 
 /// What a turn does to the alert flags.
-#[derive(Clone, Copy)]
+#[derive(Clone, Copy, PartialEq, Eq, Debug)]
 pub enum FlagEffect {
     Keep,
     ClearOwn,
@@ -48,7 +48,7 @@ pub enum FlagEffect {
 }
 
 /// A turn's report but for the freed mask, and what is left to do outside the record.
-#[derive(Clone, Copy)]
+#[derive(Clone, Copy, PartialEq, Eq, Debug)]
 pub struct Step {
     pub status: Status,
     pub value: u32,

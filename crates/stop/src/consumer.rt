@@ -1,14 +1,12 @@
 //! A consumer: it takes items, waits where there is none, and stops once it is alerted.
-use crate::Store;
+use crate::Scene;
 use crate::said::Said;
+use crate::steps::{Next, Person, spend, submit, turn};
 use lines::set::LineSet;
-use nub::Nub;
 use tickets::calls::holding::*;
 use tickets::calls::plain::*;
 use tickets::hold::Hold;
-use tickets::refusal::Back;
-use tickets::submit;
-use tickets::ticket::{Ticket, Turned};
+use tickets::ticket::Ticket;
 
 /// Where a consumer stands, with what it has in hand.
 pub enum Consumer {
@@ -24,113 +22,78 @@ pub enum Consumer {
     Stopped,
 }
 
-impl Consumer {
-    /// One submission or one turn of thread `t`. Refused, it stays where it is.
-    pub(crate) fn next<L: LineSet>(
-        self,
-        nub: &mut Nub<L>,
-        t: usize,
-        store: &mut Store,
-    ) -> (Consumer, Option<Said>) {
+impl Person for Consumer {
+    fn next<L: LineSet>(self, scene: &mut Scene<L>, t: usize) -> Next<Consumer> {
+        let nub = &mut scene.nub;
         match self {
-            Consumer::Outside => match submit::acquire(nub, t, 0) {
-                Ok(ticket) => (Consumer::Acquiring(ticket), None),
-                Err(why) => (Consumer::Outside, Some(Said::Refused(t, why.number()))),
-            },
-            Consumer::Acquiring(ticket) => match ticket.turn(nub) {
-                Ok(Turned::On(ticket, _)) => (Consumer::Acquiring(ticket), None),
-                Ok(Turned::Finished(_, hold)) => (Consumer::Inside(hold), None),
-                Err(Back { back, why }) => (
-                    Consumer::Acquiring(back),
-                    Some(Said::Refused(t, why.number())),
-                ),
-            },
-            Consumer::Inside(hold) => inside(nub, t, store, hold),
-            Consumer::Waiting(ticket) => match ticket.turn(nub) {
-                Ok(Turned::On(ticket, _)) => (Consumer::Waiting(ticket), None),
-                Ok(Turned::Finished(report, hold)) => {
-                    if report.value == 1 {
-                        (Consumer::Alerted(hold), Some(Said::Alerted(t)))
-                    } else {
-                        (Consumer::Inside(hold), Some(Said::Back(t)))
-                    }
+            Consumer::Outside => submit(
+                nub,
+                t,
+                Acquire { mutex: 0 },
+                || Consumer::Outside,
+                Consumer::Acquiring,
+            ),
+            Consumer::Acquiring(ticket) => turn(
+                nub,
+                ticket,
+                Consumer::Acquiring,
+                |_, hold| (Consumer::Inside(hold), None),
+            ),
+            Consumer::Inside(hold) => inside(scene, t, hold),
+            Consumer::Waiting(ticket) => turn(nub, ticket, Consumer::Waiting, |report, hold| {
+                if report.value == 1 {
+                    (Consumer::Alerted(hold), Some(Said::Alerted(t)))
+                } else {
+                    (Consumer::Inside(hold), Some(Said::Back(t)))
                 }
-                Err(Back { back, why }) => (
-                    Consumer::Waiting(back),
-                    Some(Said::Refused(t, why.number())),
-                ),
-            },
-            Consumer::Leaving(ticket) => match ticket.turn(nub) {
-                Ok(Turned::On(ticket, _)) => (Consumer::Leaving(ticket), None),
-                Ok(Turned::Finished(_, ())) => (Consumer::Left, None),
-                Err(Back { back, why }) => (
-                    Consumer::Leaving(back),
-                    Some(Said::Refused(t, why.number())),
-                ),
-            },
-            Consumer::Left => match submit::test_alert(nub, t) {
-                Ok(ticket) => (Consumer::Asking(ticket), None),
-                Err(why) => (Consumer::Left, Some(Said::Refused(t, why.number()))),
-            },
-            Consumer::Asking(ticket) => match ticket.turn(nub) {
-                Ok(Turned::On(ticket, _)) => (Consumer::Asking(ticket), None),
-                Ok(Turned::Finished(report, ())) => {
-                    if report.value == 1 {
-                        (Consumer::Stopped, Some(Said::Stops(t)))
-                    } else {
-                        (Consumer::Outside, None)
-                    }
+            }),
+            Consumer::Leaving(ticket) => turn(
+                nub,
+                ticket,
+                Consumer::Leaving,
+                |_, ()| (Consumer::Left, None),
+            ),
+            Consumer::Left => submit(nub, t, TestAlert, || Consumer::Left, Consumer::Asking),
+            Consumer::Asking(ticket) => turn(nub, ticket, Consumer::Asking, |report, ()| {
+                if report.value == 1 {
+                    (Consumer::Stopped, Some(Said::Stops(t)))
+                } else {
+                    (Consumer::Outside, None)
                 }
-                Err(Back { back, why }) => (
-                    Consumer::Asking(back),
-                    Some(Said::Refused(t, why.number())),
-                ),
-            },
-            Consumer::Alerted(hold) => match hold.release(nub) {
-                Ok(ticket) => (Consumer::Stopping(ticket), None),
-                Err(Back { back, why }) => (
-                    Consumer::Alerted(back),
-                    Some(Said::Refused(t, why.number())),
-                ),
-            },
-            Consumer::Stopping(ticket) => match ticket.turn(nub) {
-                Ok(Turned::On(ticket, _)) => (Consumer::Stopping(ticket), None),
-                Ok(Turned::Finished(_, ())) => (Consumer::Stopped, Some(Said::Stops(t))),
-                Err(Back { back, why }) => (
-                    Consumer::Stopping(back),
-                    Some(Said::Refused(t, why.number())),
-                ),
-            },
+            }),
+            Consumer::Alerted(hold) => spend(
+                nub,
+                hold,
+                (),
+                Consumer::Alerted,
+                |ticket| (Consumer::Stopping(ticket), None),
+            ),
+            Consumer::Stopping(ticket) => turn(
+                nub,
+                ticket,
+                Consumer::Stopping,
+                |_, ()| (Consumer::Stopped, Some(Said::Stops(t))),
+            ),
             Consumer::Stopped => (Consumer::Stopped, None),
         }
     }
 }
 
 // With the mutex: takes an item and releases, or waits where there is none.
-fn inside<L: LineSet>(
-    nub: &mut Nub<L>,
-    t: usize,
-    store: &mut Store,
-    hold: Hold,
-) -> (Consumer, Option<Said>) {
-    if store.items > 0 {
-        match hold.release(nub) {
-            Ok(ticket) => {
-                store.items -= 1;
-                (Consumer::Leaving(ticket), Some(Said::Takes(t)))
-            }
-            Err(Back { back, why }) => (
-                Consumer::Inside(back),
-                Some(Said::Refused(t, why.number())),
-            ),
-        }
+fn inside<L: LineSet>(scene: &mut Scene<L>, t: usize, hold: Hold) -> Next<Consumer> {
+    let items = &mut scene.items;
+    if *items > 0 {
+        spend(&mut scene.nub, hold, (), Consumer::Inside, |ticket| {
+            *items -= 1;
+            (Consumer::Leaving(ticket), Some(Said::Takes(t)))
+        })
     } else {
-        match hold.alert_wait(nub, 0) {
-            Ok(ticket) => (Consumer::Waiting(ticket), Some(Said::Waits(t))),
-            Err(Back { back, why }) => (
-                Consumer::Inside(back),
-                Some(Said::Refused(t, why.number())),
-            ),
-        }
+        spend(
+            &mut scene.nub,
+            hold,
+            0,
+            Consumer::Inside,
+            |ticket| (Consumer::Waiting(ticket), Some(Said::Waits(t))),
+        )
     }
 }

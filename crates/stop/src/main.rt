@@ -8,6 +8,7 @@ mod consumer;
 mod operator;
 mod producer;
 mod said;
+mod steps;
 mod strangers;
 
 use consumer::Consumer;
@@ -17,14 +18,15 @@ use lines::set::LineSet;
 use nub::{Nub, Sizes};
 use operator::Operator;
 use producer::Producer;
-use said::Said;
 use std::fmt;
 use std::mem::ManuallyDrop;
+use steps::Person;
 use strangers::{Stray, strangers};
 
-/// What the mutex guards: how many items there are.
+/// What the people share: the nub, and how many items there are, which its mutex guards.
 #[derive(Drop)]
-pub struct Store {
+pub struct Scene<L> {
+    nub: Nub<L>,
     items: u32,
 }
 
@@ -42,7 +44,7 @@ const OPERATOR_COMES: u32 = 150;
 
 const ROUNDS: u32 = 300;
 
-/// The people, with what each has in hand.
+/// The people, with what each has in hand. Each is named: what they hold cannot be let go, and an array would be taken apart.
 pub struct People {
     producer: Producer,
     first: Consumer,
@@ -63,48 +65,38 @@ pub struct Ended {
     _left: ManuallyDrop<Unfinished>,
 }
 
+// Not derived: tickets and holds have no `Debug`, so that none can be seen through.
 impl fmt::Debug for Ended {
     fn fmt<W: fmt::Write>(&self, f: &mut fmt::Formatter<W>) -> fmt::Result {
         f.write_str("not all have come to their end")
     }
 }
 
-fn say(rt: &HostRuntime, said: Option<Said>) {
+// The next step of a person, with what it says of it.
+fn step<P: Person, L: LineSet>(rt: &HostRuntime, scene: &mut Scene<L>, person: P, t: usize) -> P {
+    let (person, said) = person.next(scene, t);
     if let Some(said) = said {
         let _ = println!(rt; "  {said}");
     }
+    person
 }
 
-// One round: a turn for each, in the order of their threads.
-fn round<L: LineSet>(
-    rt: &HostRuntime,
-    nub: &mut Nub<L>,
-    store: &mut Store,
-    n: u32,
-    people: People,
-) -> People {
+// One round: a step of each who has come, in the order of their threads.
+fn round<L: LineSet>(rt: &HostRuntime, scene: &mut Scene<L>, n: u32, people: People) -> People {
     let People {
-        producer,
+        mut producer,
         first,
         second,
-        operator,
+        mut operator,
     } = people;
-    let (producer, said) = if n >= PRODUCER_COMES {
-        producer.next(nub, PRODUCER, store)
-    } else {
-        (producer, None)
-    };
-    say(rt, said);
-    let (first, said) = first.next(nub, CONSUMERS[0], store);
-    say(rt, said);
-    let (second, said) = second.next(nub, CONSUMERS[1], store);
-    say(rt, said);
-    let (operator, said) = if n >= OPERATOR_COMES {
-        operator.next(nub, OPERATOR)
-    } else {
-        (operator, None)
-    };
-    say(rt, said);
+    if n >= PRODUCER_COMES {
+        producer = step(rt, scene, producer, PRODUCER);
+    }
+    let first = step(rt, scene, first, CONSUMERS[0]);
+    let second = step(rt, scene, second, CONSUMERS[1]);
+    if n >= OPERATOR_COMES {
+        operator = step(rt, scene, operator, OPERATOR);
+    }
     People {
         producer,
         first,
@@ -114,8 +106,8 @@ fn round<L: LineSet>(
 }
 
 // Plays the rounds. Who has not come to an end has a ticket or a hold in hand, so that all people are handed back.
-fn play<L: LineSet>(rt: &HostRuntime, nub: &mut Nub<L>) -> Result<(), Unfinished> {
-    let mut store = Store { items: 0 };
+fn play<L: LineSet + Drop>(rt: &HostRuntime, nub: Nub<L>) -> Result<(), Unfinished> {
+    let mut scene = Scene { nub, items: 0 };
     let mut people = People {
         producer: Producer::Outside(2),
         first: Consumer::Outside,
@@ -123,7 +115,7 @@ fn play<L: LineSet>(rt: &HostRuntime, nub: &mut Nub<L>) -> Result<(), Unfinished
         operator: Operator::Next(CONSUMERS[0], Some(CONSUMERS[1])),
     };
     for n in 0..ROUNDS {
-        people = round(rt, nub, &mut store, n, people);
+        people = round(rt, &mut scene, n, people);
     }
     match people {
         People {
@@ -148,26 +140,18 @@ fn show(rt: &HostRuntime) -> Result<(), Unfinished> {
         semaphores: 0,
     };
     let _ = println!(rt; "first-come lines:");
-    let mut nub = Nub::<FirstCome>::make(sizes, 0, ());
-    play(rt, &mut nub)?;
+    play(rt, Nub::<FirstCome>::make(sizes, 0, ()))?;
     let _ = println!(rt; "ranked lines, where the second consumer ranks higher:");
     let mut ranks = [0; 32];
     ranks[CONSUMERS[1]] = 7;
-    let mut nub = Nub::<Ranked>::make(sizes, 0, ranks);
-    play(rt, &mut nub)?;
+    play(rt, Nub::<Ranked>::make(sizes, 0, ranks))?;
     let _ = println!(rt; "strangers:");
-    match strangers(rt) {
-        Ok(()) => Ok(()),
-        Err(stray) => Err(Unfinished::Stray(stray)),
-    }
+    strangers(rt).map_err(Unfinished::Stray)
 }
 
 fn main(rt: HostRuntime) -> Result<(), Ended> {
-    match show(&rt) {
-        Ok(()) => Ok(()),
-        Err(left) => Err(Ended {
-            // The process ends with this error, and nobody sees the tickets and holds again.
-            _left: unsafe { ManuallyDrop::new_unchecked(left) },
-        }),
-    }
+    show(&rt).map_err(|left| Ended {
+        // The process ends with this error, and nobody sees the tickets and holds again.
+        _left: unsafe { ManuallyDrop::new_unchecked(left) },
+    })
 }

@@ -1,11 +1,10 @@
 //! The operator: it stops the consumers by alerting one after the other.
+use crate::Scene;
 use crate::said::Said;
+use crate::steps::{Next, Person, submit, turn};
 use lines::set::LineSet;
-use nub::Nub;
 use tickets::calls::plain::*;
-use tickets::refusal::Back;
-use tickets::submit;
-use tickets::ticket::{Ticket, Turned};
+use tickets::ticket::Ticket;
 
 /// Where the operator stands: whom it alerts and who comes after, and the ticket while it alerts.
 pub enum Operator {
@@ -14,33 +13,29 @@ pub enum Operator {
     Done,
 }
 
-impl Operator {
-    /// One submission or one turn of thread `t`. Refused, it stays where it is.
-    pub(crate) fn next<L: LineSet>(self, nub: &mut Nub<L>, t: usize) -> (Operator, Option<Said>) {
+impl Person for Operator {
+    fn next<L: LineSet>(self, scene: &mut Scene<L>, t: usize) -> Next<Operator> {
+        let nub = &mut scene.nub;
         match self {
-            Operator::Next(c, then) => match submit::alert(nub, t, c) {
-                Ok(ticket) => (Operator::Alerting(ticket, c, then), None),
-                Err(why) => (
-                    Operator::Next(c, then),
-                    Some(Said::Refused(t, why.number())),
-                ),
-            },
-            Operator::Alerting(ticket, c, then) => match ticket.turn(nub) {
-                Ok(Turned::On(ticket, _)) => (Operator::Alerting(ticket, c, then), None),
-                Ok(Turned::Finished(_, ())) => {
+            Operator::Next(c, then) => submit(
+                nub,
+                t,
+                Alert { thread: c },
+                || Operator::Next(c, then),
+                |ticket| Operator::Alerting(ticket, c, then),
+            ),
+            Operator::Alerting(ticket, c, then) => turn(
+                nub,
+                ticket,
+                |ticket| Operator::Alerting(ticket, c, then),
+                |_, ()| {
                     let next = match then {
                         Some(after) => Operator::Next(after, None),
                         None => Operator::Done,
                     };
                     (next, Some(Said::Alerts(t, c)))
-                }
-                Err(Back { back, why }) => {
-                    (
-                        Operator::Alerting(back, c, then),
-                        Some(Said::Refused(t, why.number())),
-                    )
-                }
-            },
+                },
+            ),
             Operator::Done => (Operator::Done, None),
         }
     }

@@ -1,13 +1,12 @@
 //! The producer: it puts an item, releases the mutex and signals, as often as it has items.
-use crate::Store;
+use crate::Scene;
 use crate::said::Said;
+use crate::steps::{Next, Person, spend, submit, turn};
 use lines::set::LineSet;
-use nub::Nub;
 use tickets::calls::holding::*;
 use tickets::calls::plain::*;
 use tickets::hold::Hold;
 use tickets::refusal::Back;
-use tickets::submit;
 use tickets::ticket::{Ticket, Turned};
 
 /// Where the producer stands, with what it has in hand and how many items it has left.
@@ -21,69 +20,64 @@ pub enum Producer {
     Done,
 }
 
-impl Producer {
-    /// One submission or one turn of thread `t`. Refused, it stays where it is.
-    pub(crate) fn next<L: LineSet>(
-        self,
-        nub: &mut Nub<L>,
-        t: usize,
-        store: &mut Store,
-    ) -> (Producer, Option<Said>) {
+impl Person for Producer {
+    fn next<L: LineSet>(self, scene: &mut Scene<L>, t: usize) -> Next<Producer> {
+        let nub = &mut scene.nub;
         match self {
             Producer::Outside(0) => (Producer::Done, None),
-            Producer::Outside(left) => match submit::acquire(nub, t, 0) {
-                Ok(ticket) => (Producer::Acquiring(ticket, left), None),
-                Err(why) => (
-                    Producer::Outside(left),
-                    Some(Said::Refused(t, why.number())),
+            Producer::Outside(left) => submit(
+                nub,
+                t,
+                Acquire { mutex: 0 },
+                || Producer::Outside(left),
+                |ticket| Producer::Acquiring(ticket, left),
+            ),
+            Producer::Acquiring(ticket, left) => turn(
+                nub,
+                ticket,
+                |ticket| Producer::Acquiring(ticket, left),
+                |_, hold| (Producer::Inside(hold, left), None),
+            ),
+            Producer::Inside(hold, left) => {
+                let items = &mut scene.items;
+                spend(
+                    nub,
+                    hold,
+                    (),
+                    |hold| Producer::Inside(hold, left),
+                    |ticket| {
+                        *items = items.saturating_add(1);
+                        let left = left.saturating_sub(1);
+                        (Producer::Leaving(ticket, left), Some(Said::Puts(t)))
+                    },
+                )
+            }
+            Producer::Leaving(ticket, left) => turn(
+                nub,
+                ticket,
+                |ticket| Producer::Leaving(ticket, left),
+                |_, ()| (Producer::Left(left), None),
+            ),
+            Producer::Left(left) => submit(
+                nub,
+                t,
+                Signal { condition: 0 },
+                || Producer::Left(left),
+                |ticket| Producer::Signalling(ticket, left),
+            ),
+            // The one call whose turns are spoken of before it has finished.
+            Producer::Signalling(ticket, left) => match ticket.turn(nub) {
+                Ok(Turned::On(ticket, report)) => (
+                    Producer::Signalling(ticket, left),
+                    report.action.map(|_| Said::Signals(t, report.mask)),
                 ),
-            },
-            Producer::Acquiring(ticket, left) => match ticket.turn(nub) {
-                Ok(Turned::On(ticket, _)) => (Producer::Acquiring(ticket, left), None),
-                Ok(Turned::Finished(_, hold)) => (Producer::Inside(hold, left), None),
-                Err(Back { back, why }) => (
-                    Producer::Acquiring(back, left),
-                    Some(Said::Refused(t, why.number())),
-                ),
-            },
-            Producer::Inside(hold, left) => match hold.release(nub) {
-                Ok(ticket) => {
-                    store.items = store.items.saturating_add(1);
+                Ok(Turned::Finished(_, ())) => (Producer::Outside(left), None),
+                Err(Back { back, why }) => {
                     (
-                        Producer::Leaving(ticket, left.saturating_sub(1)),
-                        Some(Said::Puts(t)),
+                        Producer::Signalling(back, left),
+                        Some(Said::Refused(t, why)),
                     )
                 }
-                Err(Back { back, why }) => (
-                    Producer::Inside(back, left),
-                    Some(Said::Refused(t, why.number())),
-                ),
-            },
-            Producer::Leaving(ticket, left) => match ticket.turn(nub) {
-                Ok(Turned::On(ticket, _)) => (Producer::Leaving(ticket, left), None),
-                Ok(Turned::Finished(_, ())) => (Producer::Left(left), None),
-                Err(Back { back, why }) => (
-                    Producer::Leaving(back, left),
-                    Some(Said::Refused(t, why.number())),
-                ),
-            },
-            Producer::Left(left) => match submit::signal(nub, t, 0) {
-                Ok(ticket) => (Producer::Signalling(ticket, left), None),
-                Err(why) => (Producer::Left(left), Some(Said::Refused(t, why.number()))),
-            },
-            Producer::Signalling(ticket, left) => match ticket.turn(nub) {
-                Ok(Turned::On(ticket, report)) => {
-                    let said = match report.action {
-                        Some(_) => Some(Said::Signals(t, report.mask)),
-                        None => None,
-                    };
-                    (Producer::Signalling(ticket, left), said)
-                }
-                Ok(Turned::Finished(_, ())) => (Producer::Outside(left), None),
-                Err(Back { back, why }) => (
-                    Producer::Signalling(back, left),
-                    Some(Said::Refused(t, why.number())),
-                ),
             },
             Producer::Done => (Producer::Done, None),
         }

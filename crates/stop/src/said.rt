@@ -1,8 +1,9 @@
 //! What the people say of their turns.
 use std::fmt;
+use tickets::refusal::Refusal;
 
-/// What a person has just done or seen. A number is that of a thread, or of a refusal.
-#[derive(Clone, Copy)]
+/// What a person has just done or seen. A number is that of a thread.
+#[derive(Clone, Copy, PartialEq, Eq, Debug)]
 pub enum Said {
     Puts(usize),
     Signals(usize, u64),
@@ -12,7 +13,7 @@ pub enum Said {
     Alerted(usize),
     Stops(usize),
     Alerts(usize, usize),
-    Refused(usize, u8),
+    Refused(usize, Refusal),
 }
 
 impl fmt::Display for Said {
@@ -29,7 +30,10 @@ impl fmt::Display for Said {
             Said::Alerted(t) => write!(f, "thread {t} is back from its wait, alerted"),
             Said::Stops(t) => write!(f, "thread {t} has released the mutex and stops"),
             Said::Alerts(t, c) => write!(f, "thread {t} has alerted thread {c}"),
-            Said::Refused(t, number) => write!(f, "thread {t} is refused by {number}"),
+            Said::Refused(t, why) => {
+                let number = u8::from(why);
+                write!(f, "thread {t} is refused by {number}")
+            }
         }
     }
 }

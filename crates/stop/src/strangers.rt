@@ -2,11 +2,12 @@
 use lines::first_come::*;
 use nub::{Nub, Sizes};
 use stages::action::Status;
+use stages::call::Call;
+use tickets::calls::Ticketed;
 use tickets::calls::holding::*;
 use tickets::calls::plain::*;
 use tickets::hold::Hold;
 use tickets::refusal::Back;
-use tickets::submit;
 use tickets::ticket::{Ticket, Turned};
 
 /// What is left in hand where the scene goes another way.
@@ -38,7 +39,7 @@ fn show(
 ) -> Result<Ticket<Acquire>, Stray> {
     match ticket.turn(nub) {
         Err(Back { back, why }) => {
-            let number = why.number();
+            let number = u8::from(why);
             let _ = println!(rt; "  a ticket, shown to {to}, is refused by {number}");
             Ok(back)
         }
@@ -47,39 +48,32 @@ fn show(
     }
 }
 
-// A whole call on mutex 0 by the thread's number and the call's code.
-fn by_number(nub: &mut Nub<FirstCome>, t: usize, code: u32) {
-    let _ = nub.submit(t, code, 0, 0);
+// A whole call by the thread's number.
+fn by_number(nub: &mut Nub<FirstCome>, t: usize, call: Call) {
+    let _ = nub.submit_call(t, call);
     for _ in 0..TURNS {
         let Ok(report) = nub.turn(t) else {
             return;
         };
-        if let Status::Finished = report.status {
+        if report.status == Status::Finished {
             return;
         }
     }
 }
 
-fn acquired(nub: &mut Nub<FirstCome>, mut ticket: Ticket<Acquire>) -> Result<Hold, Stray> {
+// A whole call by its ticket, which comes back where it does not finish.
+fn finish<C: Ticketed>(
+    nub: &mut Nub<FirstCome>,
+    mut ticket: Ticket<C>,
+) -> Result<C::End, Ticket<C>> {
     for _ in 0..TURNS {
         match ticket.turn(nub) {
             Ok(Turned::On(again, _)) => ticket = again,
-            Ok(Turned::Finished(_, hold)) => return Ok(hold),
-            Err(Back { back, why: _ }) => return Err(Stray::Acquiring(back)),
+            Ok(Turned::Finished(_, end)) => return Ok(end),
+            Err(Back { back, why: _ }) => return Err(back),
         }
     }
-    Err(Stray::Acquiring(ticket))
-}
-
-fn released(nub: &mut Nub<FirstCome>, mut ticket: Ticket<Release>) -> Result<(), Stray> {
-    for _ in 0..TURNS {
-        match ticket.turn(nub) {
-            Ok(Turned::On(again, _)) => ticket = again,
-            Ok(Turned::Finished(_, ())) => return Ok(()),
-            Err(Back { back, why: _ }) => return Err(Stray::Releasing(back)),
-        }
-    }
-    Err(Stray::Releasing(ticket))
+    Err(ticket)
 }
 
 /// Shows a ticket to nubs that it is not of, then has its hold overtaken by a Release and an Acquire by thread number.
@@ -87,23 +81,23 @@ pub(crate) fn strangers(rt: &HostRuntime) -> Result<(), Stray> {
     let mut own = built(4);
     let mut small = built(1);
     let mut other = built(4);
-    let Ok(ticket) = submit::acquire(&mut own, 3, 0) else {
+    let Ok(ticket) = Ticket::submit(&mut own, 3, Acquire { mutex: 0 }) else {
         return Ok(());
     };
     let ticket = show(rt, &mut small, ticket, "a nub of one thread")?;
     let ticket = show(rt, &mut other, ticket, "a nub whose thread is idle")?;
-    let _ = other.submit(3, 9, 0, 0);
+    let _ = other.submit_call(3, Call::TestAlert);
     let ticket = show(
         rt,
         &mut other,
         ticket,
         "a nub whose thread has another call",
     )?;
-    let hold = acquired(&mut own, ticket)?;
-    by_number(&mut own, 3, 2);
-    let hold = match hold.release(&mut own) {
+    let hold = finish(&mut own, ticket).map_err(Stray::Acquiring)?;
+    by_number(&mut own, 3, Call::Release(0));
+    let hold = match hold.submit::<Release>(&mut own, ()) {
         Err(Back { back, why }) => {
-            let number = why.number();
+            let number = u8::from(why);
             let _ = println!(rt;
                 "  a hold, its mutex released by thread number, is refused by {number}"
             );
@@ -111,11 +105,11 @@ pub(crate) fn strangers(rt: &HostRuntime) -> Result<(), Stray> {
         }
         Ok(ticket) => return Err(Stray::Releasing(ticket)),
     };
-    by_number(&mut own, 3, 1);
-    match hold.release(&mut own) {
-        Ok(ticket) => released(&mut own, ticket)?,
-        Err(Back { back, why: _ }) => return Err(Stray::Holding(back)),
-    }
+    by_number(&mut own, 3, Call::Acquire(0));
+    let ticket = hold
+        .submit::<Release>(&mut own, ())
+        .map_err(|Back { back, why: _ }| Stray::Holding(back))?;
+    finish(&mut own, ticket).map_err(Stray::Releasing)?;
     let _ = println!(rt; "  the same hold, its mutex acquired again, is released");
     Ok(())
 }

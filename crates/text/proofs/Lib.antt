@@ -1,4 +1,3 @@
--- Lemmas by topic: of steps, of lines, and the laws.
-pub mod Stepping
+-- Lemmas by topic: of lines, and the laws.
 pub mod Running
 pub mod Lawful

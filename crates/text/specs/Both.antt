@@ -3,10 +3,14 @@
 --     either_of f g h   the state of the machine h, read by f or by g after its kind
 --     held_at f g o     the same where there may be no machine yet
 --     both a b         the machine of a script that is a or b, as it is built
+--     is_ranked o      the kind whose waiting threads go by the order o, true for ranked
 use Rattle.std.specs.Prelude.{ℕ, Bool, true, false, List, Some, None, Option, Result}
-use Rattle.text.specs.declared.answer.Report.{Report}
+use Rattle.nub.specs.declared.Decline.{Decline}
+use Rattle.nub.specs.declared.Report.{Report}
 use Rattle.text.specs.declared.held.Held.{Held}
 use Rattle.text.specs.declared.held.Held.TheVariants.{ByArrival, ByRank}
+use Rattle.text.specs.declared.held.Order.{Order}
+use Rattle.text.specs.declared.held.Order.TheVariants.{Arrival, Rank}
 use Rattle.text.specs.Model.{Model, Single, made_at}
 
 pub data Either (X Y : Type 0) : Type 0 where
@@ -22,11 +26,11 @@ held_at f g (Some h) = Some (either_of f g h)
 held_at f g None = None
 
 module _ (a b : Single) where
-  abbrev pub build_both : Bool → List ℕ → Result (Either a.State b.State) ℕ
+  abbrev pub build_both : Bool → List ℕ → Result (Either a.State b.State) Decline
   build_both false ns = made_at arrival (a.build ns)
   build_both true ns = made_at rank (b.build ns)
 
-  abbrev pub submit_both : Either a.State b.State → List ℕ → Result (Unit {0}) ℕ
+  abbrev pub submit_both : Either a.State b.State → List ℕ → Result (Unit {0}) Decline
   submit_both (arrival s) ns = a.submit s ns
   submit_both (rank s) ns = b.submit s ns
 
@@ -34,7 +38,7 @@ module _ (a b : Single) where
   submitted_both (arrival s) ns = arrival (a.submitted s ns)
   submitted_both (rank s) ns = rank (b.submitted s ns)
 
-  abbrev pub turn_both : Either a.State b.State → ℕ → Result Report ℕ
+  abbrev pub turn_both : Either a.State b.State → ℕ → Result Report Decline
   turn_both (arrival s) t = a.turn s t
   turn_both (rank s) t = b.turn s t
 
@@ -44,3 +48,7 @@ module _ (a b : Single) where
 
   abbrev pub both : Model
   both = record { State = Either a.State b.State; build = build_both; submit = submit_both; submitted = submitted_both; turn = turn_both; turned = turned_both }
+
+abbrev pub is_ranked : Order → Bool
+is_ranked Arrival = false
+is_ranked Rank = true

@@ -2,6 +2,7 @@
 #![tactic(auto)]
 
 pub mod answer;
+mod cut;
 pub mod held;
 pub mod laws;
 pub mod machine;

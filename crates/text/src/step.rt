@@ -1,11 +1,11 @@
 //! What one line does to the nub, and what it is answered.
 ghost use Rattle.std.specs.Prelude.{◌≡◌};
-ghost use Rattle.text.specs.Both.{both, held_at};
-ghost use Rattle.tokens.specs.Numbers.{read};
-ghost use Rattle.text.specs.Step.{built, submitted, turned, replied, stepped};
+ghost use Rattle.tokens.specs.Word.{submit, turn};
+ghost use Rattle.text.specs.Both.{both, held_at, is_ranked};
+ghost use Rattle.text.specs.Step.{building, by_word, replied, stepped};
 
 use crate::answer::*;
-use crate::held::Held;
+use crate::held::{Held, Order};
 use crate::machine::Machine;
 use tokens::fault::Fault;
 use tokens::numbers::numbers;
@@ -13,66 +13,47 @@ use tokens::token;
 use tokens::token::Token;
 
 // N and K: a new nub, where there is none. One that is refused leaves none.
-fn build<A: Machine + Drop, B: Machine + Drop>(
+fn build<'a, A: Machine + Drop, B: Machine + Drop>(
     nub: &mut Option<Held<A, B>>,
-    ranked: bool,
+    order: Order,
     text: &[u8],
-) -> Result<(), Refusal>
-    ensures answer { result ≡ (built (both A.Machine.model B.Machine.model) ranked (held_at A.Machine.state B.Machine.state nub.old) (read 5 2 text.now)).answer }
-    ensures after { held_at A.Machine.state B.Machine.state nub.new ≡ (built (both A.Machine.model B.Machine.model) ranked (held_at A.Machine.state B.Machine.state nub.old) (read 5 2 text.now)).state }
+) -> Result<Answer<'a>, Refusal>
+    ensures answer { replied result ≡ (building (both A.Machine.model B.Machine.model) (is_ranked order) (held_at A.Machine.state B.Machine.state nub.old) text.now).answer }
+    ensures after { held_at A.Machine.state B.Machine.state nub.new ≡ (building (both A.Machine.model B.Machine.model) (is_ranked order) (held_at A.Machine.state B.Machine.state nub.old) text.now).state }
 {
-    match numbers::<5>(text) {
-        Err(column) => Err(Refusal::Script(Fault::BadNumber(column))),
-        Ok(sizes) => {
-            if nub.is_some() {
-                return Err(Refusal::Script(Fault::OutOfOrder));
-            }
-            match Held::build(ranked, sizes) {
-                Ok(made) => {
-                    *nub = Some(made);
-                    Ok(())
-                }
-                Err(number) => Err(Refusal::Nub(number)),
-            }
-        }
+    let sizes = numbers::<5>(text)?;
+    if nub.is_some() {
+        return Err(Refusal::Script(Fault::OutOfOrder));
     }
+    *nub = Some(Held::build(order, sizes)?);
+    Ok(Answer::Done)
 }
 
 // S: a submission to the nub.
-fn submit<A: Machine, B: Machine>(nub: &mut Option<Held<A, B>>, text: &[u8]) -> Result<(), Refusal>
-    ensures answer { result ≡ (submitted (both A.Machine.model B.Machine.model) (held_at A.Machine.state B.Machine.state nub.old) (read 4 2 text.now)).answer }
-    ensures after { held_at A.Machine.state B.Machine.state nub.new ≡ (submitted (both A.Machine.model B.Machine.model) (held_at A.Machine.state B.Machine.state nub.old) (read 4 2 text.now)).state }
+fn submit<'a, A: Machine, B: Machine>(
+    nub: &mut Option<Held<A, B>>,
+    text: &[u8],
+) -> Result<Answer<'a>, Refusal>
+    ensures answer { replied result ≡ (by_word (both A.Machine.model B.Machine.model) submit (held_at A.Machine.state B.Machine.state nub.old) text.now).answer }
+    ensures after { held_at A.Machine.state B.Machine.state nub.new ≡ (by_word (both A.Machine.model B.Machine.model) submit (held_at A.Machine.state B.Machine.state nub.old) text.now).state }
 {
-    match numbers::<4>(text) {
-        Err(column) => Err(Refusal::Script(Fault::BadNumber(column))),
-        Ok(call) => match nub {
-            None => Err(Refusal::Script(Fault::OutOfOrder)),
-            Some(nub) => match nub.submit(call) {
-                Ok(()) => Ok(()),
-                Err(number) => Err(Refusal::Nub(number)),
-            },
-        },
-    }
+    let call = numbers::<4>(text)?;
+    let nub = nub.as_mut().ok_or(Fault::OutOfOrder)?;
+    nub.submit(call)?;
+    Ok(Answer::Done)
 }
 
 // T: a turn of the nub.
-fn turn<A: Machine, B: Machine>(
+fn turn<'a, A: Machine, B: Machine>(
     nub: &mut Option<Held<A, B>>,
     text: &[u8],
-) -> Result<Report, Refusal>
-    ensures answer { result ≡ (turned (both A.Machine.model B.Machine.model) (held_at A.Machine.state B.Machine.state nub.old) (read 1 2 text.now)).answer }
-    ensures after { held_at A.Machine.state B.Machine.state nub.new ≡ (turned (both A.Machine.model B.Machine.model) (held_at A.Machine.state B.Machine.state nub.old) (read 1 2 text.now)).state }
+) -> Result<Answer<'a>, Refusal>
+    ensures answer { replied result ≡ (by_word (both A.Machine.model B.Machine.model) turn (held_at A.Machine.state B.Machine.state nub.old) text.now).answer }
+    ensures after { held_at A.Machine.state B.Machine.state nub.new ≡ (by_word (both A.Machine.model B.Machine.model) turn (held_at A.Machine.state B.Machine.state nub.old) text.now).state }
 {
-    match numbers::<1>(text) {
-        Err(column) => Err(Refusal::Script(Fault::BadNumber(column))),
-        Ok(thread) => match nub {
-            None => Err(Refusal::Script(Fault::OutOfOrder)),
-            Some(nub) => match nub.turn(thread[0]) {
-                Ok(report) => Ok(report),
-                Err(number) => Err(Refusal::Nub(number)),
-            },
-        },
-    }
+    let [thread] = numbers::<1>(text)?;
+    let nub = nub.as_mut().ok_or(Fault::OutOfOrder)?;
+    Ok(Answer::Turned(nub.turn(thread)?))
 }
 
 /// What a line, without its end, does to the nub, and what it is answered. The letter is looked at first, then the
@@ -88,23 +69,12 @@ pub fn step<'a, A: Machine + Drop, B: Machine + Drop>(
         return Err(Refusal::Script(Fault::NoLetter));
     };
     match token::first(line) {
-        Token::FirstCome => {
-            build(nub, false, text)?;
-            Ok(Answer::Done)
-        }
-        Token::Ranked => {
-            build(nub, true, text)?;
-            Ok(Answer::Done)
-        }
-        Token::Submit => {
-            submit(nub, text)?;
-            Ok(Answer::Done)
-        }
-        Token::Turn => {
-            let report = turn(nub, text)?;
-            Ok(Answer::Turned(report))
-        }
-        Token::Note(text) => Ok(Answer::Note(text)),
-        Token::Number(_) | Token::Wrong(_) => Err(Refusal::Script(Fault::NoLetter)),
+        Some(Token::FirstCome) => build(nub, Order::Arrival, text),
+        Some(Token::Ranked) => build(nub, Order::Rank, text),
+        Some(Token::Submit) => submit(nub, text),
+        Some(Token::Turn) => turn(nub, text),
+        Some(Token::Note(text)) => Ok(Answer::Note(text)),
+        // A number only follows a letter.
+        Some(Token::Number(_)) | None => Err(Refusal::Script(Fault::NoLetter)),
     }
 }

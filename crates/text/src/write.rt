@@ -1,60 +1,66 @@
 //! What is written of an answer and of a refusal.
 ghost use Rattle.std.specs.Prelude.{◌≡◌, ◌++◌, is_ok, if◌then◌else◌, Some};
-ghost use Rattle.text.specs.Written.{shown_report, written, refusal};
+ghost use Rattle.text.specs.Written.{shown_report, shown_refusal, written, refusal};
 
 use crate::answer::*;
-use std::alloc::{AllocError, Global};
+use nub::Report;
+use stages::action::Action;
+use std::alloc::AllocError;
 use std::fmt;
 
-impl fmt::Display for Report {
-    ghost output = { λ r. Some (shown_report r) };
+// A report of the nub, as it is written. The trait and the report's type are both of other crates.
+#[derive(Clone, Copy)]
+struct Written(Report);
+
+impl fmt::Display for Written {
+    ghost output = { λ w. Some (shown_report w.0) };
 
     fn fmt<W: fmt::Write>(&self, f: &mut fmt::Formatter<W>) -> fmt::Result {
-        let status = self.status;
-        let value = self.value;
-        let action = self.action;
-        let mask = self.mask;
-        write!(f, "T {status} {value} {action} {mask}")
+        let Written(report) = self;
+        let status = u8::from(report.status);
+        let action = Action::number(report.action);
+        write!(f, "T {status} {} {action} {}", report.value, report.mask)
+    }
+}
+
+impl fmt::Display for Refusal {
+    ghost output = { λ r. Some (shown_refusal r) };
+
+    fn fmt<W: fmt::Write>(&self, f: &mut fmt::Formatter<W>) -> fmt::Result {
+        match self {
+            Refusal::Nub(decline) => write!(f, "nub {}", u8::from(*decline)),
+            Refusal::Script(fault) => {
+                write!(f, "script {} column {}", u8::from(*fault), fault.column())
+            }
+        }
     }
 }
 
 /// Writes that a line is refused, after what out has. Where memory fails, out stays as it was.
-pub fn write_refusal(
-    heap: Global,
-    out: &mut Vec<u8>,
-    line: usize,
-    why: Refusal,
-) -> Result<(), AllocError>
+pub fn write_refusal(out: &mut Vec<u8>, line: usize, why: Refusal) -> Result<(), AllocError>
     ensures { out.new.items ≡ (if is_ok result then out.old.items ++ refusal line why else out.old.items) }
 {
-    let text = match why {
-        Refusal::Nub(number) => format!(in heap; "line {line} nub {number}\n")?,
-        Refusal::Script(fault) => {
-            let number = fault.number();
-            let column = fault.column();
-            format!(in heap; "line {line} script {number} column {column}\n")?
-        }
-    };
+    let text = format!(in *out.allocator(); "line {line} {why}\n")?;
     out.extend_from_slice(text.as_bytes())
 }
 
 /// Writes an answer, after what out has. Where memory fails, out stays as it was.
-pub fn write_answer(heap: Global, out: &mut Vec<u8>, answer: Answer<'_>) -> Result<(), AllocError>
+pub fn write_answer(out: &mut Vec<u8>, answer: Answer<'_>) -> Result<(), AllocError>
     ensures { out.new.items ≡ (if is_ok result then out.old.items ++ written answer.entry else out.old.items) }
 {
     match answer {
         Answer::Done => out.extend_from_slice(b"ok\n"),
         Answer::Turned(report) => {
-            let text = format!(in heap; "{report}\n")?;
+            let text = format!(in *out.allocator(); "{}\n", Written(report))?;
             out.extend_from_slice(text.as_bytes())
         }
         Answer::Note(text) => {
             // Made apart first, so that out never has a part of a line.
-            let mut note = Vec::new(heap);
+            let mut note = Vec::new(*out.allocator());
             note.push(b'#')?;
             note.extend_from_slice(text)?;
             note.push(b'\n')?;
-            out.extend_from_slice(note.as_slice())
+            out.extend_from_slice(&note)
         }
     }
 }

@@ -49,7 +49,7 @@ impl Thread {
         }
     }
 
-    // On to `next`.
+    // On to `next`. The clauses here and below are equations, with one word each for what becomes of the record.
     fn go(&mut self, next: Stage) -> Step
         ensures after { self.new ≡ at_stage next self.old }
         ensures value { result ≡ step_by Status.On 0 None SpinEffect.Keep GateEffect.Keep LineEffect.Keep FlagEffect.Keep }

@@ -1,4 +1,3 @@
-pub mod Submissions
 pub mod Ends
 pub mod Refusals
 pub mod Tickets

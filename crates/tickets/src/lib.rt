@@ -3,7 +3,5 @@
 
 pub mod calls;
 pub mod hold;
-mod numbers;
 pub mod refusal;
-pub mod submit;
 pub mod ticket;

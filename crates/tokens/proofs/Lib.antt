@@ -1,5 +1,5 @@
 -- Lemmas by topic: of tokens, of numbers, and the laws.
-pub mod Fronts
+pub mod Words
 pub mod Values
 pub mod Reading
 pub mod Right

@@ -1,19 +1,13 @@
 -- How `numbers` goes along a text: what is found so far, and one number more.
-use Rattle.std.proofs.Common.{◌≡◌, ℕ, suc, ◌+◌, ◌-◌, ◌<◌, ◌≤◌, List, [], ◌∷◌, ◌++◌, length, take, drop, set, replicate, Some, None, Ok, Err, Result, sym, refl, ap, ◌∙◌, append_assoc, append-nil, arith, length-drop, length-set}
-use native.Mathlib.Nat.{sub-zero}
-use lib.ListN.{length-replicate}
-use Rattle.std.proofs.lemmas.List.{take_rest, take_more_set, take_all}
+use Rattle.std.proofs.Common.{◌≡◌, ℕ, suc, ◌+◌, ◌-◌, ◌<◌, ◌≤◌, List, [], ◌∷◌, ◌++◌, length, take, drop, set, Some, Ok, Err, Result, sym, refl, ap, ◌∙◌, append_assoc, arith, length-drop, length-set}
+use Rattle.std.proofs.lemmas.List.{take_rest, take_more_set}
 use Rattle.tokens.specs.Number.{worth}
-use Rattle.tokens.specs.Word.{Word, number, wrong, numeral}
+use Rattle.tokens.specs.Word.{Word, number, numeral}
 use Rattle.tokens.specs.Numbers.{read, prepend, counted, taken}
 
 prepend_prepend : (ms ns : List ℕ) (r : Result (List ℕ) ℕ) → prepend ms (prepend ns r) ≡ prepend (ms ++ ns) r
 prepend_prepend ms ns (Ok ks) = ap Ok (sym (append_assoc ms ns ks))
 prepend_prepend ms ns (Err c) = refl
-
-prepend_none : (r : Result (List ℕ) ℕ) → r ≡ prepend [] r
-prepend_none (Ok ks) = refl
-prepend_none (Err c) = refl
 
 -- the first i of k numbers of the text are found, and rest is what is left, from column on
 pub record Sofar (k : ℕ) (text found : List ℕ) (i column : ℕ) (rest : List ℕ) : Type 0 where
@@ -21,20 +15,11 @@ pub record Sofar (k : ℕ) (text found : List ℕ) (i column : ℕ) (rest : List
   pub room : length found ≡ k
   pub same : read k 2 text ≡ prepend (take i found) (read (k - i) column rest)
 
-pub start : (k : ℕ) (text : List ℕ) → Sofar k text (replicate k 0) 0 2 text
-start k text = record { columns = refl; room = length-replicate k 0; same = rw sub-zero (prepend_none _) }
-
 module _ {k : ℕ} {text found : List ℕ} {i column : ℕ} {rest : List ℕ} (old : Sofar k text found i column rest) where
   next : i < k → (w : Word) → w ≡ numeral rest → read k 2 text ≡ prepend (take i found) (taken w column (λ n. read (k - (i + 1)) (column + (n + 1)) (drop (n + 1) rest)))
   next h w e =
       let one : k - i ≡ suc (k - (i + 1)) = omega arith in
       old.same ∙ ap (λ m. prepend (take i found) (read m column rest)) one ∙ ap (λ v. prepend (take i found) (taken v column (λ n. read (k - (i + 1)) (column + (n + 1)) (drop (n + 1) rest)))) (sym e)
-
-  pub at_wrong : (n : ℕ) → i < k → wrong n ≡ numeral rest → Err (column + n) ≡ read k 2 text
-  at_wrong n h e = sym (next h (wrong n) e)
-
-  pub at_high : (ds : List ℕ) → i < k → number ds ≡ numeral rest → None ≡ worth ds → Err (column + 1) ≡ read k 2 text
-  at_high ds h e none = sym (next h (number ds) e ∙ ap (λ o. prepend (take i found) (counted o (column + 1) (read (k - (i + 1)) (column + (length ds + 1)) (drop (length ds + 1) rest)))) (sym none))
 
   pub one_more : (ds : List ℕ) (n : ℕ) → i < k → number ds ≡ numeral rest → Some n ≡ worth ds → length ds + 1 ≤ length rest → Sofar k text (set found i n) (i + 1) (column + (length ds + 1)) (take (length rest - (length ds + 1)) (drop (length ds + 1) rest))
   one_more ds n h e some fits =
@@ -47,16 +32,3 @@ module _ {k : ℕ} {text found : List ℕ} {i column : ℕ} {rest : List ℕ} (o
             ∙ prepend_prepend (take i found) (n ∷ []) _
             ∙ rw (take_more_set, take_rest) refl;
       }
-
-  pub done : k ≤ i → length rest ≡ 0 → Ok found ≡ read k 2 text
-  done h e = sym (old.same ∙ rw (none, all) (last rest e))
-    where
-      none : k - i ≡ 0
-      none = omega arith
-
-      all : take i found ≡ found
-      all = take_all i found (omega (arith, old.room))
-
-      last : (bs : List ℕ) → length bs ≡ 0 → prepend found (read 0 column bs) ≡ Ok found
-      last [] z = ap Ok (append-nil found)
-      last (b ∷ bs) z = absurd (omega arith)

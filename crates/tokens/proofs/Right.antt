@@ -1,25 +1,25 @@
 -- Numbers that are each written after one space are read right.
-use Rattle.std.proofs.Common.{◌≡◌, ℕ, suc, ◌+◌, List, [], ◌∷◌, ◌++◌, length, drop, refl, ap, ◌∙◌, add-one, arith}
+use Rattle.std.proofs.Common.{◌≡◌, ℕ, ◌+◌, List, [], ◌∷◌, ◌++◌, length, drop, refl, ap, ◌∙◌, add-one, arith}
 use Rattle.std.proofs.lemmas.List.{take_at, drop_at}
 use Rattle.std.proofs.lemmas.Bool.{ne_eqb}
-use Rattle.tokens.specs.declared.token.Class.TheVariants.{Digit}
-use Rattle.tokens.specs.Front.{front}
+use Rattle.std.specs.Char.{is_ascii_digit}
+use Rattle.std.specs.List.{prefix_len}
 use Rattle.tokens.specs.Word.{number, numeral, digits_or}
 use Rattle.tokens.specs.Numbers.{read, taken, counted, prepend}
 use Rattle.tokens.specs.Laws.{AllDigits, Spells, spaced, ReadsRight}
 
-front_digits : (ds rest : List ℕ) → AllDigits ds → front Digit rest ≡ 0 → front Digit (ds ++ rest) ≡ length ds
-front_digits [] rest h stop = stop
-front_digits (d ∷ ds) rest h stop = rw h.0 (ap suc (front_digits ds rest h.1 stop))
+digits_front : (ds rest : List ℕ) → AllDigits ds → prefix_len is_ascii_digit rest ≡ 0 → prefix_len is_ascii_digit (ds ++ rest) ≡ length ds
+digits_front [] rest h stop = stop
+digits_front (d ∷ ds) rest h stop = rw h.0 (omega (arith, digits_front ds rest h.1 stop))
 
-stops : (dss : List (List ℕ)) → front Digit (spaced dss) ≡ 0
+stops : (dss : List (List ℕ)) → prefix_len is_ascii_digit (spaced dss) ≡ 0
 stops [] = refl
 stops (ds ∷ dss) = refl
 
-is_number : (ds rest : List ℕ) (n : ℕ) → Spells ds n → front Digit rest ≡ 0 → numeral (32 ∷ (ds ++ rest)) ≡ number ds
+is_number : (ds rest : List ℕ) (n : ℕ) → Spells ds n → prefix_len is_ascii_digit rest ≡ 0 → numeral (32 ∷ (ds ++ rest)) ≡ number ds
 is_number ds rest n h stop =
     let some : length ds ≡ 0 → ⊥ = λ z. omega (arith, h.some) in
-    let long = front_digits ds rest h.digits stop in
+    let long = digits_front ds rest h.digits stop in
     ap (λ k. digits_or k (ds ++ rest)) long ∙ rw (ne_eqb (length ds) 0 some, take_at ds rest (length ds) refl) refl
 
 pub reads_right : ReadsRight

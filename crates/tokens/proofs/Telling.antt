@@ -2,8 +2,8 @@
 use Rattle.std.proofs.Common.{◌≡◌, ℕ, zero, suc, ◌+◌, ◌<◌, Bool, true, false, cond, eqb, List, [], ◌∷◌, ◌++◌, length, take, drop, Some, None, Ok, Err, Option, Result, sym, refl, ap, ◌∙◌, subst, inl, inr, append_assoc, add-one, arith, length-append, take-append-drop}
 use mathlib.Core.Path.{fun_ext}
 use Rattle.std.proofs.lemmas.Bool.{eqb-true, eqb-false, ne_eqb}
-use Rattle.tokens.specs.declared.token.Class.TheVariants.{Digit}
-use Rattle.tokens.specs.Front.{is_in, front}
+use Rattle.std.specs.Char.{is_ascii_digit}
+use Rattle.std.specs.List.{prefix_len}
 use Rattle.tokens.specs.Number.{worth}
 use Rattle.tokens.specs.Word.{wrong, digits_or}
 use Rattle.tokens.specs.Numbers.{read, taken, counted, prepend}
@@ -16,11 +16,11 @@ pub record Split (bs : List ℕ) (n : ℕ) : Type 0 where
   pub ends : NoDigit (drop n bs)
   pub long : length (take n bs) ≡ n
 
-split : (bs : List ℕ) → Split bs (front Digit bs)
+split : (bs : List ℕ) → Split bs (prefix_len is_ascii_digit bs)
 split [] = record { digits = tt; ends = tt; long = refl }
-split (b ∷ bs) = by_first (is_in Digit b) refl (split bs)
+split (b ∷ bs) = let one : suc (prefix_len is_ascii_digit bs) ≡ 1 + prefix_len is_ascii_digit bs = omega arith in subst (λ (n : ℕ). Split (b ∷ bs) (cond (is_ascii_digit b) n 0)) one (by_first (is_ascii_digit b) refl (split bs))
   where
-    by_first : (d : Bool) → is_in Digit b ≡ d → Split bs (front Digit bs) → Split (b ∷ bs) (cond d (suc (front Digit bs)) 0)
+    by_first : (d : Bool) → is_ascii_digit b ≡ d → Split bs (prefix_len is_ascii_digit bs) → Split (b ∷ bs) (cond d (suc (prefix_len is_ascii_digit bs)) 0)
     by_first true e s = record { digits = (e, s.digits); ends = s.ends; long = ap suc s.long }
     by_first false e s = record { digits = tt; ends = e; long = refl }
 
@@ -83,8 +83,8 @@ module _ (k c b : ℕ) (bs : List ℕ) (space : b ≡ 32) where
   }
   by_digits (suc n) s t = rw (ne_eqb (suc n) 0 (λ z. omega arith)) (by_worth (suc n) (omega arith) s (worth (take (suc n) bs)) refl (t (length (take (suc n) bs))))
 
-by_space : (k c b : ℕ) (bs : List ℕ) (e : Bool) → eqb b 32 ≡ e → ((m : ℕ) → Told k (c + (m + 1)) (drop m bs) (read k (c + (m + 1)) (drop m bs))) → Told (suc k) c (b ∷ bs) (taken (cond e (digits_or (front Digit bs) bs) (wrong 0)) c (λ m. read k (c + (m + 1)) (drop m bs)))
-by_space k c b bs true e t = by_digits k c b bs (eqb-true b 32 e) (front Digit bs) (split bs) t
+by_space : (k c b : ℕ) (bs : List ℕ) (e : Bool) → eqb b 32 ≡ e → ((m : ℕ) → Told k (c + (m + 1)) (drop m bs) (read k (c + (m + 1)) (drop m bs))) → Told (suc k) c (b ∷ bs) (taken (cond e (digits_or (prefix_len is_ascii_digit bs) bs) (wrong 0)) c (λ m. read k (c + (m + 1)) (drop m bs)))
+by_space k c b bs true e t = by_digits k c b bs (eqb-true b 32 e) (prefix_len is_ascii_digit bs) (split bs) t
 by_space k c b bs false e t = record {
   dss = [];
   ns = [];
@@ -104,4 +104,4 @@ tells_right zero c [] = record { dss = []; spells = tt; count = refl; cut = refl
 tells_right zero c (b ∷ bs) = record { dss = []; ns = []; spells = tt; left = 0; count = refl; tail = b ∷ bs; cut = refl; ended = tt; on = 0; fault = (omega arith, refl); column = omega arith }
 tells_right (suc k) c [] = record { dss = []; ns = []; spells = tt; left = suc k; count = omega arith; tail = []; cut = refl; ended = tt; on = 0; fault = inl (tt, refl); column = refl }
 tells_right (suc k) c (b ∷ bs) =
-    subst (λ (f : ℕ → Result (List ℕ) ℕ). Told (suc k) c (b ∷ bs) (taken (cond (eqb b 32) (digits_or (front Digit bs) bs) (wrong 0)) c f)) (fun_ext (λ m. rw add-one refl)) (by_space k c b bs (eqb b 32) refl (λ m. tells_right k (c + (m + 1)) (drop m bs)))
+    subst (λ (f : ℕ → Result (List ℕ) ℕ). Told (suc k) c (b ∷ bs) (taken (cond (eqb b 32) (digits_or (prefix_len is_ascii_digit bs) bs) (wrong 0)) c f)) (fun_ext (λ m. rw add-one refl)) (by_space k c b bs (eqb b 32) refl (λ m. tells_right k (c + (m + 1)) (drop m bs)))

@@ -5,8 +5,7 @@
 --     Right k text ns        the text is the k numbers ns
 --     TellsRight            what is read of a text is right: it is the numbers, or the column is that of the leftmost fault
 use Rattle.std.specs.Prelude.{◌≡◌, ℕ, zero, suc, ◌+◌, ◌<◌, false, ◌⊎◌, List, [], ◌∷◌, ◌++◌, length, None, Ok, Err, Result}
-use Rattle.tokens.specs.declared.token.Class.TheVariants.{Digit}
-use Rattle.tokens.specs.Front.{is_in}
+use Rattle.std.specs.Char.{is_ascii_digit}
 use Rattle.tokens.specs.Number.{worth}
 use Rattle.tokens.specs.Numbers.{read}
 use Rattle.tokens.specs.Laws.{AllDigits, SpellAll, spaced}
@@ -17,7 +16,7 @@ NoSpace (b ∷ bs) = b ≡ 32 → ⊥
 
 abbrev pub NoDigit : List ℕ → Type 0
 NoDigit [] = Unit {0}
-NoDigit (b ∷ bs) = is_in Digit b ≡ false
+NoDigit (b ∷ bs) = is_ascii_digit b ≡ false
 
 -- begins with a number over its limit
 pub record OverLimit (rest : List ℕ) : Type 0 where

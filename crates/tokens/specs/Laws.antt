@@ -4,14 +4,13 @@
 --     spaced dss     numbers, each after one space
 use Rattle.std.specs.Prelude.{◌≡◌, ℕ, ◌<◌, true, List, [], ◌∷◌, length, Some, Ok}
 use Rattle.std.specs.List.{flat_map}
-use Rattle.tokens.specs.declared.token.Class.TheVariants.{Digit}
-use Rattle.tokens.specs.Front.{is_in}
+use Rattle.std.specs.Char.{is_ascii_digit}
 use Rattle.tokens.specs.Number.{worth}
 use Rattle.tokens.specs.Numbers.{read}
 
 abbrev pub AllDigits : List ℕ → Type 0
 AllDigits [] = Unit {0}
-AllDigits (d ∷ ds) = (is_in Digit d ≡ true) × AllDigits ds
+AllDigits (d ∷ ds) = (is_ascii_digit d ≡ true) × AllDigits ds
 
 -- ds are the digits of the number n
 pub record Spells (ds : List ℕ) (n : ℕ) : Type 0 where

@@ -1,6 +1,9 @@
 -- The numbers of a line.
 --     read k c bs   the k numbers that bs, from column c on, are; or the column of the leftmost fault
+--     told r        the same, with the column as the fault that it is told by
 use Rattle.std.specs.Prelude.{ℕ, zero, suc, ◌+◌, List, [], ◌∷◌, ◌++◌, length, drop, Some, None, Ok, Err, Option, Result}
+use Rattle.tokens.specs.declared.fault.Fault.{Fault}
+use Rattle.tokens.specs.declared.fault.Fault.TheVariants.{BadNumber}
 use Rattle.tokens.specs.Number.{worth}
 use Rattle.tokens.specs.Word.{Word, first_come, ranked, submit, turn, note, number, wrong, numeral}
 
@@ -28,3 +31,7 @@ abbrev pub read : ℕ → ℕ → List ℕ → Result (List ℕ) ℕ
 read zero c [] = Ok []
 read zero c (b ∷ bs) = Err c
 read (suc k) c bs = taken (numeral bs) c (λ n. read k (c + (n + 1)) (drop (n + 1) bs))
+
+abbrev pub told : Result (List ℕ) ℕ → Result (List ℕ) Fault
+told (Ok ns) = Ok ns
+told (Err c) = Err (BadNumber c)

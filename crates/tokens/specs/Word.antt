@@ -1,14 +1,17 @@
 -- The words of a line: what its tokens are, without regard to where their bytes stand.
 --     Word         a letter, a note, a number, or the place of a wrong byte
---     word_of t     the word of the token t
+--     word_of o    the word of a token
+--     opened o     the word that is read where a line opens, and the place of a wrong byte where none is
+--     spelt r      the word that is read where a number stands, or the place of a wrong byte
 --     opening l    the word that the line l begins with
 --     numeral bs   the number that bs begin with, after one space
 --     reach w      how many bytes a number takes, with its space
-use Rattle.std.specs.Prelude.{ℕ, ◌+◌, cond, List, [], ◌∷◌, length, take, ◌==◌}
-use Rattle.tokens.specs.declared.token.Class.TheVariants.{Digit}
+use Rattle.std.specs.Prelude.{ℕ, ◌+◌, cond, List, [], ◌∷◌, length, take, Some, None, Ok, Err, Option, Result, ◌==◌}
+use Rattle.std.specs.Char.{is_ascii_digit}
+use Rattle.std.specs.List.{prefix_len}
+use Rattle.tokens.specs.declared.token.Misplaced.{Misplaced}
 use Rattle.tokens.specs.declared.token.Token.{Token}
-use Rattle.tokens.specs.declared.token.Token.TheVariants as token
-use Rattle.tokens.specs.Front.{front}
+use Rattle.tokens.specs.declared.token.Token.TheVariants as opens
 
 pub data Word : Type 0 where
   first_come : Word
@@ -23,13 +26,21 @@ pub data Word : Type 0 where
   wrong : ℕ → Word
 
 abbrev pub word_of : Token → Word
-word_of token.FirstCome = first_come
-word_of token.Ranked = ranked
-word_of token.Submit = submit
-word_of token.Turn = turn
-word_of (token.Note s) = note s.now
-word_of (token.Number s) = number s.now
-word_of (token.Wrong n) = wrong n
+word_of opens.FirstCome = first_come
+word_of opens.Ranked = ranked
+word_of opens.Submit = submit
+word_of opens.Turn = turn
+word_of (opens.Note s) = note s.now
+word_of (opens.Number s) = number s.now
+
+-- the first byte is the wrong one where a line opens with none of these
+abbrev pub opened : Option Token → Word
+opened (Some o) = word_of o
+opened None = wrong 0
+
+abbrev pub spelt : Result Token Misplaced → Word
+spelt (Ok o) = word_of o
+spelt (Err e) = wrong e.on
 
 -- by the letter that a line begins with: 78 is N, 75 is K, 83 is S, 84 is T, 35 is #
 abbrev pub by_letter : ℕ → List ℕ → Word
@@ -47,7 +58,7 @@ digits_or n bs = cond (n == 0) (wrong 1) (number (take n bs))
 -- 32 is the space
 abbrev pub numeral : List ℕ → Word
 numeral [] = wrong 0
-numeral (b ∷ bs) = cond (b == 32) (digits_or (front Digit bs) bs) (wrong 0)
+numeral (b ∷ bs) = cond (b == 32) (digits_or (prefix_len is_ascii_digit bs) bs) (wrong 0)
 
 abbrev pub reach : Word → ℕ
 reach (number ds) = length ds + 1

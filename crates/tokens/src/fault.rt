@@ -3,7 +3,7 @@ ghost use Rattle.std.specs.Prelude.{◌≡◌};
 ghost use Rattle.tokens.specs.Refusals.{number_of, column_of};
 
 /// What is wrong with a line, or with the whole input.
-#[derive(Clone, Copy)]
+#[derive(Clone, Copy, PartialEq, Eq, Debug)]
 pub enum Fault {
     /// The line is empty, or its first byte is none of N, K, S, T and #.
     NoLetter,
@@ -15,28 +15,28 @@ pub enum Fault {
     TooLong,
 }
 
-impl Fault {
-    /// The number that is written of the fault.
-    pub fn number(self) -> u8
-        ensures { result ≡ number_of self }
-    {
-        match self {
+// A variant with a column has no number of its own, so the numbers stand here.
+impl From<Fault> for u8 {
+    ghost from_gives = { λ fault number. number ≡ number_of fault };
+
+    fn from(fault: Fault) -> u8 {
+        match fault {
             Fault::NoLetter => 31,
             Fault::BadNumber(_) => 32,
             Fault::OutOfOrder => 33,
             Fault::TooLong => 34,
         }
     }
+}
 
+impl Fault {
     /// The column that is written of the fault, counted from 1.
     pub fn column(self) -> usize
         ensures { result ≡ column_of self }
     {
         match self {
             Fault::BadNumber(column) => column,
-            Fault::NoLetter => 1,
-            Fault::OutOfOrder => 1,
-            Fault::TooLong => 1,
+            Fault::NoLetter | Fault::OutOfOrder | Fault::TooLong => 1,
         }
     }
 }

@@ -1,6 +1,7 @@
 //! A thread that passes its hold and its tickets from hand to hand. The uses that the compiler rejects are edits of this file.
 use lines::set::LineSet;
 use nub::Nub;
+use tickets::calls::Spending;
 use tickets::calls::holding::*;
 use tickets::calls::plain::*;
 use tickets::hold::Hold;
@@ -17,6 +18,7 @@ pub enum Hand {
     Stale(Back<Ticket<Release>>),
 }
 
+// Two functions, and no generic one: the edits that copy, drop or forget a hold or a ticket are of their bodies.
 /// Keeps a hold.
 fn keep(hold: Hold) -> Hand {
     Hand::Holding(hold)
@@ -27,20 +29,26 @@ fn keep_ticket(ticket: Ticket<Release>) -> Hand {
     Hand::Releasing(ticket)
 }
 
-/// Waits on condition 0 with a hold.
+/// Submits a call that uses a hold up, and keeps its ticket so.
+fn spend<C: Spending, L: LineSet, K: FnOnce(Ticket<C>) -> Hand + Drop>(
+    nub: &mut Nub<L>,
+    hold: Hold,
+    with: C::With,
+    keep: K,
+) -> Hand
+    requires { K.IsAlwaysCallable keep }
+{
+    hold.submit(nub, with).map_or_else(Hand::Refused, keep)
+}
+
+/// Waits on condition 0 with a hold. This and the next are functions, since rejected edits call them.
 fn wait<L: LineSet>(nub: &mut Nub<L>, hold: Hold) -> Hand {
-    match hold.wait(nub, 0) {
-        Ok(ticket) => Hand::Waiting(ticket),
-        Err(back) => Hand::Refused(back),
-    }
+    spend(nub, hold, 0, Hand::Waiting)
 }
 
 /// Submits Release with a hold.
 fn release<L: LineSet>(nub: &mut Nub<L>, hold: Hold) -> Hand {
-    match hold.release(nub) {
-        Ok(ticket) => Hand::Releasing(ticket),
-        Err(back) => Hand::Refused(back),
-    }
+    spend(nub, hold, (), Hand::Releasing)
 }
 
 /// Submits Release with a hold, and does no more with it.

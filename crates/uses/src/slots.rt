@@ -3,33 +3,23 @@ ghost use Rattle.std.specs.Prelude.{◌≡◌, true, is_some, None};
 
 use lines::set::LineSet;
 use nub::Nub;
+use tickets::calls::Spending;
 use tickets::calls::holding::*;
 use tickets::calls::plain::*;
 use tickets::hold::Hold;
 use tickets::refusal::Back;
 use tickets::ticket::{Ticket, Turned};
 
-// Releases with the hold in the slot.
-fn release<L: LineSet>(
-    nub: &mut Nub<L>,
+// Submits a call that uses up the hold in the slot.
+fn spend<C: Spending>(
+    nub: &mut Nub<impl LineSet>,
     slot: &mut Option<Hold>,
-) -> Result<Ticket<Release>, Back<Hold>>
+    with: C::With,
+) -> Result<Ticket<C>, Back<Hold>>
     requires full { is_some slot.old ≡ true }
     ensures empty { slot.new ≡ None }
 {
-    slot.take().unwrap().release(nub)
-}
-
-// Waits on a condition with the hold in the slot.
-fn wait<L: LineSet>(
-    nub: &mut Nub<L>,
-    slot: &mut Option<Hold>,
-    condition: usize,
-) -> Result<Ticket<Wait>, Back<Hold>>
-    requires full { is_some slot.old ≡ true }
-    ensures empty { slot.new ≡ None }
-{
-    slot.take().unwrap().wait(nub, condition)
+    slot.take().unwrap().submit(nub, with)
 }
 
 // Puts a ticket into an empty slot.
@@ -69,7 +59,7 @@ pub struct Got {
 /// Releases with a hold, once: the slot is empty then, so that there is nothing to release or to wait with.
 fn release_once<L: LineSet>(nub: &mut Nub<L>, hold: Hold) -> Got {
     let mut slot = Some(hold);
-    let first = release(nub, &mut slot);
+    let first = spend(nub, &mut slot, ());
     let again = None;
     let waits = None;
     let None = slot else { unreachable() };
@@ -87,7 +77,7 @@ fn wait_once<L: LineSet>(
     condition: usize,
 ) -> Result<Ticket<Wait>, Back<Hold>> {
     let mut slot = Some(hold);
-    let first = wait(nub, &mut slot, condition);
+    let first = spend(nub, &mut slot, condition);
     let None = slot else { unreachable() };
     first
 }

@@ -2,12 +2,23 @@
 ghost use Rattle.stages.specs.declared.call.Call.TheVariants as call;
 ghost use Rattle.std.specs.Prelude.{None, refl};
 
-use crate::calls::Ticketed;
 use crate::calls::sealed::Sealed;
+use crate::calls::{Ending, Finished, Free, Spending, Ticketed};
+use crate::hold::Hold;
 use stages::call::Call;
 
+impl Sealed for () {}
+
+impl Ending for () {
+    ghost gives = { λ _ _. tt };
+
+    ghost held = { λ _. None };
+
+    fn of(_call: Call, _by: Finished) {}
+}
+
 /// Release of a mutex.
-#[derive(Clone, Copy)]
+#[derive(Clone, Copy, PartialEq, Eq, Debug)]
 pub struct Release {
     pub(crate) mutex: usize,
 }
@@ -19,23 +30,27 @@ impl Ticketed for Release {
 
     ghost under = { λ c. call.Release c.mutex };
 
-    ghost gives = { λ c t. tt };
-
-    ghost held = { λ _. None };
-
     ghost ends = { λ _ _. refl };
 
     fn call(self) -> Call {
         Call::Release(self.mutex)
     }
+}
 
-    fn end(self, _thread: usize) {}
+impl Spending for Release {
+    type With = ();
+
+    ghost made = { λ hold _. record { mutex = hold.mutex } };
+
+    fn of(hold: &Hold, _with: ()) -> Release {
+        Release { mutex: hold.mutex }
+    }
 }
 
 /// Signal of a condition.
-#[derive(Clone, Copy)]
+#[derive(Clone, Copy, PartialEq, Eq, Debug)]
 pub struct Signal {
-    pub(crate) condition: usize,
+    pub condition: usize,
 }
 
 impl Sealed for Signal {}
@@ -45,23 +60,19 @@ impl Ticketed for Signal {
 
     ghost under = { λ c. call.Signal c.condition };
 
-    ghost gives = { λ c t. tt };
-
-    ghost held = { λ _. None };
-
     ghost ends = { λ _ _. refl };
 
     fn call(self) -> Call {
         Call::Signal(self.condition)
     }
-
-    fn end(self, _thread: usize) {}
 }
 
+impl Free for Signal {}
+
 /// Broadcast of a condition.
-#[derive(Clone, Copy)]
+#[derive(Clone, Copy, PartialEq, Eq, Debug)]
 pub struct Broadcast {
-    pub(crate) condition: usize,
+    pub condition: usize,
 }
 
 impl Sealed for Broadcast {}
@@ -71,23 +82,19 @@ impl Ticketed for Broadcast {
 
     ghost under = { λ c. call.Broadcast c.condition };
 
-    ghost gives = { λ c t. tt };
-
-    ghost held = { λ _. None };
-
     ghost ends = { λ _ _. refl };
 
     fn call(self) -> Call {
         Call::Broadcast(self.condition)
     }
-
-    fn end(self, _thread: usize) {}
 }
 
+impl Free for Broadcast {}
+
 /// P of a semaphore.
-#[derive(Clone, Copy)]
+#[derive(Clone, Copy, PartialEq, Eq, Debug)]
 pub struct P {
-    pub(crate) semaphore: usize,
+    pub semaphore: usize,
 }
 
 impl Sealed for P {}
@@ -97,23 +104,19 @@ impl Ticketed for P {
 
     ghost under = { λ c. call.P c.semaphore };
 
-    ghost gives = { λ c t. tt };
-
-    ghost held = { λ _. None };
-
     ghost ends = { λ _ _. refl };
 
     fn call(self) -> Call {
         Call::P(self.semaphore)
     }
-
-    fn end(self, _thread: usize) {}
 }
 
+impl Free for P {}
+
 /// V of a semaphore.
-#[derive(Clone, Copy)]
+#[derive(Clone, Copy, PartialEq, Eq, Debug)]
 pub struct V {
-    pub(crate) semaphore: usize,
+    pub semaphore: usize,
 }
 
 impl Sealed for V {}
@@ -123,23 +126,19 @@ impl Ticketed for V {
 
     ghost under = { λ c. call.V c.semaphore };
 
-    ghost gives = { λ c t. tt };
-
-    ghost held = { λ _. None };
-
     ghost ends = { λ _ _. refl };
 
     fn call(self) -> Call {
         Call::V(self.semaphore)
     }
-
-    fn end(self, _thread: usize) {}
 }
 
+impl Free for V {}
+
 /// Alert of a thread.
-#[derive(Clone, Copy)]
+#[derive(Clone, Copy, PartialEq, Eq, Debug)]
 pub struct Alert {
-    pub(crate) thread: usize,
+    pub thread: usize,
 }
 
 impl Sealed for Alert {}
@@ -149,21 +148,17 @@ impl Ticketed for Alert {
 
     ghost under = { λ c. call.Alert c.thread };
 
-    ghost gives = { λ c t. tt };
-
-    ghost held = { λ _. None };
-
     ghost ends = { λ _ _. refl };
 
     fn call(self) -> Call {
         Call::Alert(self.thread)
     }
-
-    fn end(self, _thread: usize) {}
 }
 
+impl Free for Alert {}
+
 /// TestAlert of the thread itself; the value of its report is the alert flag.
-#[derive(Clone, Copy)]
+#[derive(Clone, Copy, PartialEq, Eq, Debug)]
 pub struct TestAlert;
 
 impl Sealed for TestAlert {}
@@ -171,25 +166,21 @@ impl Sealed for TestAlert {}
 impl Ticketed for TestAlert {
     type End = ();
 
-    ghost under = { λ c. call.TestAlert };
-
-    ghost gives = { λ c t. tt };
-
-    ghost held = { λ _. None };
+    ghost under = { λ _. call.TestAlert };
 
     ghost ends = { λ _ _. refl };
 
     fn call(self) -> Call {
         Call::TestAlert
     }
-
-    fn end(self, _thread: usize) {}
 }
 
+impl Free for TestAlert {}
+
 /// AlertP of a semaphore; the value of its last report says whether it was alerted.
-#[derive(Clone, Copy)]
+#[derive(Clone, Copy, PartialEq, Eq, Debug)]
 pub struct AlertP {
-    pub(crate) semaphore: usize,
+    pub semaphore: usize,
 }
 
 impl Sealed for AlertP {}
@@ -199,15 +190,11 @@ impl Ticketed for AlertP {
 
     ghost under = { λ c. call.AlertP c.semaphore };
 
-    ghost gives = { λ c t. tt };
-
-    ghost held = { λ _. None };
-
     ghost ends = { λ _ _. refl };
 
     fn call(self) -> Call {
         Call::AlertP(self.semaphore)
     }
-
-    fn end(self, _thread: usize) {}
 }
+
+impl Free for AlertP {}

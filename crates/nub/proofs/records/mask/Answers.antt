@@ -1,12 +1,9 @@
-use Rattle.std.proofs.Common.{ℕ, ◌<◌, Bool, false, ◌&&◌, ◌||◌, eqb, get_or, sym, refl, arith}
+use Rattle.std.proofs.Common.{ℕ, ◌<◌, Bool, false, ◌&&◌, ◌||◌, eqb, get_or, sym, arith}
 use Rattle.std.proofs.lemmas.Bool.{or_left, or_right, or_from}
 use Rattle.thread.specs.Turns.{state_of, idle_thread, between_on}
 use Rattle.nub.proofs.Taken.{mask_more, mask_skip}
 use Rattle.nub.proofs.records.mask.Goals as goal
 use Rattle.nub.proofs.records.mask.Goals.{then-taken-n, then-taken-n-via-then-taken-n, then-taken-n-via-else-taken-n+then-is_between, else-taken-n+else-is_between}
-
-pub loop-n-init : goal.loop-n-init
-loop-n-init c = refl
 
 pub loop-n-preserved : goal.loop-n-preserved
 loop-n-preserved c =

@@ -1,7 +1,6 @@
-use Rattle.std.proofs.Common.{◌<◌, ◌≤◌, Bool, List, length, ap, ◌∙◌, arith}
-use Rattle.std.proofs.lemmas.List.{take_all, set-get_or}
+use Rattle.std.proofs.Common.{◌<◌, length, ◌∙◌, arith}
+use Rattle.std.proofs.lemmas.List.{set-get_or}
 use Rattle.thread.specs.Turns.{idle_thread}
-use Rattle.nub.specs.Marked.{wake_marked}
 use Rattle.nub.proofs.Taken.{free_step, free_still}
 use Rattle.nub.proofs.records.wake_marked.Goals as goal
 use Rattle.nub.proofs.records.wake_marked.Goals.{then-taken-n, else-taken-n}
@@ -17,8 +16,3 @@ loop-n-preserved c =
       | then-taken-n w ↦ free_step c.args.effect bs ts c.loop-n.threads _ n _ h l w.if-taken-n.true c.loop-n.invariant w.wake.ensures w.threads-is
       | else-taken-n w ↦ free_still c.args.effect bs ts c.loop-n.threads _ n h l w.if-taken-n.false c.loop-n.invariant (w.threads-is ∙ set-get_or c.loop-n.threads n idle_thread)
     ]
-
-pub returns : goal.returns
-returns c =
-    let l : length c.args.taken.now ≤ c.loop-n.n = omega arith in
-    c.loop-n.invariant ∙ ap (λ (bs : List Bool). wake_marked c.args.effect bs c.args.threads.now) (take_all c.loop-n.n c.args.taken.now l)

@@ -1,8 +1,8 @@
 use Rattle.std.proofs.Common.{Some, ◌∙◌}
 use Rattle.lines.proofs.Taking.{Took}
 use Rattle.nub.specs.Lining.{standing}
-use Rattle.nub.proofs.Draining.{gave, standing_has, standing_left, standing_less, drain_step, drain_end, standing_end}
-use Rattle.nub.proofs.Taken.{marks_again, marks_end}
+use Rattle.nub.proofs.Draining.{gave, standing_has, standing_left, standing_less, drain_step}
+use Rattle.nub.proofs.Taken.{marks_again}
 use Rattle.nub.proofs.signals.mark_line.Given as given
 use Rattle.nub.proofs.signals.mark_line.Goals as goal
 
@@ -27,15 +27,3 @@ loop-t-preserved g c =
           c.args.taken.now c.loop-t.taken c.put.new.table t (standing_left K m.lawful _ _ k t w) c.put.ensures (standing_has K m.lawful _ _ k t w) c.loop-t.auto.taken c.loop-t.invariant.0,
       drain_step K m.lawful _ _ k t ((m.sound c.loop-t.lines).once k) w ∙ c.loop-t.invariant.1,
     )
-
-pub returns : goal.returns
-returns g c =
-    let m = g.met.L.LineSet in
-    let K = g.L.LineSet.kind in
-    let k = c.args.k in
-    let s = g.L.LineSet.state c.loop-t.lines in
-    let s' = g.L.LineSet.state c.take.new.lines in
-    record {
-      after = drain_end K m.lawful s s' k c.in_default.ensures.value c.in_default.ensures.after ∙ c.loop-t.invariant.1;
-      marks = marks_end (standing K (g.L.LineSet.state c.args.lines.now) k) (standing K s k) c.args.taken.now c.loop-t.taken (standing_end K m.lawful s s' k c.in_default.ensures.value) c.loop-t.invariant.0;
-    }

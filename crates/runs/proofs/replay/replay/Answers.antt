@@ -1,13 +1,11 @@
-use Rattle.std.proofs.lemmas.Result.{err_from_is_err_and}
-use Rattle.std.proofs.Common.{◌≡◌, ◌+◌, ◌<◌, ◌≤◌, List, [], length, get_or, take, vec_items, sym, refl, ap, ◌∙◌, subst, arith}
+use Rattle.std.proofs.Common.{◌≡◌, ◌+◌, ◌<◌, ◌≤◌, List, [], length, get_or, take, vec_items, sym, refl, ap, subst, arith}
 use Rattle.std.proofs.lemmas.List.{take_all, take_more}
 use Rattle.nub.specs.declared.Answer.{Answer}
-use Rattle.nub.specs.declared.Core.{Core}
 use Rattle.nub.specs.declared.Event.{Event}
 use Rattle.nub.specs.declared.Event.TheVariants.{Submission}
 use Rattle.nub.specs.Build.{built_sizes}
 use Rattle.nub.specs.Turn.{moves}
-use Rattle.runs.specs.Replay.{Conformed, ran}
+use Rattle.runs.specs.Replay.{Conformed}
 use Rattle.runs.proofs.Along.{Along, along_none, along_end, along_next, ran_next, built_sized}
 use Rattle.runs.proofs.Kept.{runs_over}
 use Rattle.runs.proofs.replay.replay.Goals as goal
@@ -42,32 +40,22 @@ loop-event-preserved g c =
           h.1 (take_more es i (Submission 0 0 0 0) l) c.in_ok-enter_one.ensures.answer refl c.enter_one.ensures.core c.enter_one.ensures.lines,
     )
 
-pub returns-in_err-enter_one : goal.returns-in_err-enter_one
-returns-in_err-enter_one g c =
+pub returns-in_err-enter_one-clause-granted : goal.returns-in_err-enter_one-clause-granted
+returns-in_err-enter_one-clause-granted g c =
     let m = g.met.L.LineSet in
     let b : c.args.start ≤ 4294967295 = omega (arith, c.ranges.start.fits) in
-    record {
-      run = let p = err_from_is_err_and c.from_residual.result c.from_residual.ensures.1 in rw p.1 tt;
-      tables = let p = err_from_is_err_and c.from_residual.result c.from_residual.ensures.1 in rw p.1 tt;
-      granted = (runs_over g.L.LineSet.kind m.lawful m.serving c.args.sizes c.args.start (g.L.LineSet.fresh c.args.maker) c.args.events.now b (m.new c.args.maker)).granted;
-    }
+    (runs_over g.L.LineSet.kind m.lawful m.serving c.args.sizes c.args.start (g.L.LineSet.fresh c.args.maker) c.args.events.now b (m.new c.args.maker)).granted
 
-pub returns : goal.returns
-returns g c =
+pub returns-clause-run : goal.returns-clause-run
+returns-clause-run g c =
     let K = g.L.LineSet.kind in
-    let m = g.met.L.LineSet in
-    let h = c.loop-event.invariant in
-    let es = c.args.events.now in
     let i = c.loop-event.event-index in
-    let l : length es ≤ i = c.loop-event-test.false in
+    let l : length c.args.events.now ≤ i = c.loop-event-test.false in
+    subst (λ (es : List Event). Conformed K es (vec_items c.loop-event.answers) c.loop-event.nub.core (g.L.LineSet.state c.loop-event.nub.lines)) (take_all i c.args.events.now l)
+    (along_end K (take i c.args.events.now) (vec_items c.loop-event.answers) c.loop-event.nub.core (g.L.LineSet.state c.loop-event.nub.lines) c.loop-event.invariant.0)
+
+pub returns-clause-granted : goal.returns-clause-granted
+returns-clause-granted g c =
+    let m = g.met.L.LineSet in
     let b : c.args.start ≤ 4294967295 = omega (arith, c.ranges.start.fits) in
-    record {
-      run = subst (λ (es : List Event). Conformed K es (vec_items c.loop-event.answers) c.loop-event.nub.core (g.L.LineSet.state c.loop-event.nub.lines)) (take_all i es l)
-          (along_end K (take i es) (vec_items c.loop-event.answers) c.loop-event.nub.core (g.L.LineSet.state c.loop-event.nub.lines) h.0);
-      tables =
-          ap (λ (x : Core). ran K x (g.L.LineSet.fresh c.args.maker) es) (sym c.make-nub.ensures.core)
-          ∙ ap (λ (x : K.State). ran K c.make-nub.result.core x es) (sym c.make-nub.ensures.lines)
-          ∙ ap (λ (es : List Event). ran K c.make-nub.result.core (g.L.LineSet.state c.make-nub.result.lines) es) (sym (take_all i es l))
-          ∙ h.1;
-      granted = (runs_over K m.lawful m.serving c.args.sizes c.args.start (g.L.LineSet.fresh c.args.maker) es b (m.new c.args.maker)).granted;
-    }
+    (runs_over g.L.LineSet.kind m.lawful m.serving c.args.sizes c.args.start (g.L.LineSet.fresh c.args.maker) c.args.events.now b (m.new c.args.maker)).granted

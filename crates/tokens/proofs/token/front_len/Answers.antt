@@ -1,16 +1,10 @@
-use Rattle.std.proofs.Common.{arith}
-use Rattle.tokens.proofs.Fronts.{front_in, front_out, front_all}
+use Rattle.std.proofs.Common.{rules, ◌∙◌}
+use Rattle.std.proofs.lemmas.Iterator.{YieldsList-from_slice}
+use Rattle.std.proofs.lemmas.Iterator.Consumers.{YieldsList-at, count_from_yields_List}
+use Rattle.std.proofs.lemmas.Iterator.Search.{YieldsList-from_take_while}
+use Rattle.std.proofs.lemmas.List.Folds.{length-prefix_len}
 use Rattle.tokens.proofs.token.front_len.Goals as goal
 
-pub returns-then-not-holds : goal.returns-then-not-holds
-returns-then-not-holds c =
-    let stops = front_out c.args.class c.args.s.now c.loop-i.i c.loop-i-test.true c.if-not-holds.ensures in
-    record { value = omega arith; within = omega arith }
-
-pub loop-i-preserved : goal.loop-i-preserved
-loop-i-preserved c = omega (arith, front_in c.args.class c.args.s.now c.loop-i.i c.loop-i-test.true c.if-not-holds.ensures)
-
-pub returns : goal.returns
-returns c =
-    let stops = front_all c.args.class c.args.s.now c.loop-i.i c.loop-i-test.false in
-    record { value = omega arith; within = omega arith }
+pub returns-clause-value : goal.returns-clause-value
+returns-clause-value g c p h =
+    count_from_yields_List c.take_while.result _ c.count.ensures.ran (YieldsList-from_take_while _ p (YieldsList-at c.take_while.ensures.source (YieldsList-from_slice c.args.s.now (cc))) c.take_while.ensures.closure c.take_while.ensures.done (λ x b q k. (search rules, h _ _ (search rules)))) ∙ length-prefix_len p c.args.s.now

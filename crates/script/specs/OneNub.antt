@@ -4,24 +4,27 @@
 --   asked            the sizes that a building line asks for; its fifth number is the start count
 --   submission_of     the event of a submission line, and turn_of that of a turn line
 --   answer_to         the nub's answer to an event, and after the state that it leaves
---   submission_says   the nub's answer to a submission as a result, and turn_says that to a turn
---   build_one         what a building line makes, or why it is declined
+--   in_numbers        a report of the nub, in numbers
+--   submission_says   the nub's answer to a submission, in numbers, and turn_says that to a turn
+--   build_one         what a building line makes, or the number of the decline
 --   nub_over          the nub over lines of the kind K, which are f when new
 use Rattle.std.specs.Prelude.{ℕ, List, Ok, Err, Result, slice_index}
 use Rattle.lines.specs.Kinds.{Kind}
+use Rattle.stages.specs.Names.{status_no, action_no}
 use Rattle.nub.specs.declared.Core.{Core}
 use Rattle.nub.specs.declared.Sizes.{Sizes}
 use Rattle.nub.specs.declared.Nub.{Nub}
 use Rattle.nub.specs.declared.Decline.{Decline}
-use Rattle.nub.specs.declared.Decline.TheVariants.{IdleThread}
-use Rattle.nub.specs.declared.Report.{Report}
+use Rattle.nub.specs.declared.Report as nub
 use Rattle.nub.specs.declared.Event.{Event}
 use Rattle.nub.specs.declared.Event.TheVariants.{Submission, Turn}
 use Rattle.nub.specs.declared.Answer.{Answer}
 use Rattle.nub.specs.declared.Answer.TheVariants.{Granted as granted, Declined as declined, Reported as reported}
+use Rattle.nub.specs.Answers.{decline_no}
 use Rattle.nub.specs.Build.{sizes_verdict, built_sizes, built_core}
 use Rattle.nub.specs.Turn.{moves}
 use Rattle.nub.specs.View.{core_of, lines_of}
+use Rattle.text.specs.declared.answer.Report.{Report}
 use Rattle.text.specs.Model.{Single}
 
 pub record Now (K : Kind) : Type 0 where
@@ -48,28 +51,31 @@ answer_to K n e = (moves K n.core n.lines e).answer
 abbrev pub after : (K : Kind) → Now K → Event → Now K
 after K n e = record { core = (moves K n.core n.lines e).core; lines = (moves K n.core n.lines e).lines }
 
+abbrev pub in_numbers : nub.Report → Report
+in_numbers r = record { status = status_no r.status; value = r.value; action = action_no r.action; mask = r.mask }
+
 -- no submission is answered by a report
-abbrev pub submission_says : Answer → Result (Unit {0}) Decline
+abbrev pub submission_says : Answer → Result (Unit {0}) ℕ
 submission_says granted = Ok tt
-submission_says (declined d) = Err d
+submission_says (declined d) = Err (decline_no d)
 submission_says (reported r) = Ok tt
 
--- no turn is granted without a report: any decline stands here for that
-abbrev pub turn_says : Answer → Result Report Decline
-turn_says granted = Err IdleThread
-turn_says (declined d) = Err d
-turn_says (reported r) = Ok r
+-- no turn is answered without a report or a decline; 0 is the number of no decline
+abbrev pub turn_says : Answer → Result Report ℕ
+turn_says granted = Err 0
+turn_says (declined d) = Err (decline_no d)
+turn_says (reported r) = Ok (in_numbers r)
 
 -- x where a check grants it
-abbrev pub checked : {X : Type 0} → Result (Unit {0}) Decline → X → Result X Decline
+abbrev pub checked : {X : Type 0} → Result (Unit {0}) Decline → X → Result X ℕ
 checked (Ok u) x = Ok x
-checked (Err d) x = Err d
+checked (Err d) x = Err (decline_no d)
 
 -- a new nub with these sizes and this start count
 abbrev pub new_nub : (K : Kind) → K.State → Sizes → ℕ → Now K
 new_nub K f z n = record { core = built_core (built_sizes K.serves z) n; lines = f }
 
-abbrev pub build_one : (K : Kind) → K.State → List ℕ → Result (Now K) Decline
+abbrev pub build_one : (K : Kind) → K.State → List ℕ → Result (Now K) ℕ
 build_one K f ns = checked (sizes_verdict K.serves (asked ns)) (new_nub K f (asked ns) (slice_index ns 4))
 
 abbrev pub nub_over : (K : Kind) → K.State → Single

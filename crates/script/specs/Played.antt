@@ -18,6 +18,7 @@ use Rattle.nub.specs.declared.Decline.TheVariants.{WrongSize}
 use Rattle.nub.specs.declared.Event.{Event}
 use Rattle.nub.specs.declared.Answer.{Answer}
 use Rattle.nub.specs.declared.Answer.TheVariants.{Granted as granted, Declined as declined, Reported as reported}
+use Rattle.nub.specs.Answers.{decline_no}
 use Rattle.nub.specs.Build.{sizes_fit, built_core}
 use Rattle.runs.specs.Replay.{ran, RunsRight}
 use Rattle.text.specs.declared.answer.Refusal.{Refusal}
@@ -30,7 +31,7 @@ use Rattle.text.specs.Step.{Reply, done, echoed}
 use Rattle.text.specs.Step as step
 use Rattle.text.specs.Written.{line_text}
 use Rattle.text.specs.Script.{lines}
-use Rattle.script.specs.OneNub.{asked, submission_of, turn_of}
+use Rattle.script.specs.OneNub.{asked, submission_of, turn_of, in_numbers}
 use Rattle.script.specs.Kinds.{kind_of, new_lines}
 
 pub data Meaning : Type 0 where
@@ -73,8 +74,8 @@ Said = Result Reply Refusal
 
 abbrev pub said_of : Answer → Said
 said_of granted = Ok done
-said_of (declined d) = Err (Nub d)
-said_of (reported r) = Ok (step.reported r)
+said_of (declined d) = Err (Nub (decline_no d))
+said_of (reported r) = Ok (step.reported (in_numbers r))
 
 -- each event takes the next answer, and there is one for each; a second nub is refused
 abbrev pub told : List Meaning → List Answer → List Said
@@ -98,7 +99,7 @@ NoneMakes (x ∷ ms) = (makes x ≡ false) × NoneMakes ms
 
 -- a nub of wrong sizes is declined, and a submission or a turn comes too early
 abbrev pub early : Meaning → Said
-early (builds k ns) = Err (Nub WrongSize)
+early (builds k ns) = Err (Nub (decline_no WrongSize))
 early (enters e) = Err (Script OutOfOrder)
 early (notes t) = Ok (echoed t)
 early (faulty f) = Err (Script f)

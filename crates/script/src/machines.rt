@@ -1,12 +1,14 @@
 //! A nub over each kind of lines, as the machine of a script.
 ghost use Rattle.std.specs.Prelude.{◌≡◌};
-ghost use Rattle.script.specs.OneNub.{now_of, asked, nub_over};
+ghost use Rattle.script.specs.OneNub.{now_of, asked, in_numbers, nub_over};
 ghost use Rattle.script.specs.Kinds.{ranks};
 
 use lines::first_come::FirstCome;
 use lines::ranked::Ranked;
 use lines::set::LineSet;
-use nub::{Decline, Nub, Report, Sizes};
+use nub::{Nub, Sizes};
+use stages::action::Action;
+use text::answer::Report;
 use text::machine::Machine;
 
 /// Lines of a kind that a script's nubs run on.
@@ -52,12 +54,24 @@ fn sizes_of(numbers: [u32; 5]) -> Sizes
     }
 }
 
+// A report of the nub, in numbers. No `From`: neither type is this crate's.
+fn in_numbers(report: nub::Report) -> Report
+    ensures { result ≡ in_numbers report }
+{
+    Report {
+        status: u8::from(report.status),
+        value: report.value,
+        action: Action::number(report.action),
+        mask: report.mask,
+    }
+}
+
 impl<L: Scripted> Machine for On<L> {
     ghost model = { nub_over L.LineSet.kind (L.LineSet.fresh L.Scripted.made_from) };
 
     ghost state = { λ n. now_of L.LineSet.kind L.LineSet.state n.nub };
 
-    fn build(numbers: [u32; 5]) -> Result<Self, Decline> {
+    fn build(numbers: [u32; 5]) -> Result<Self, u8> {
         let sizes = sizes_of(numbers);
         sizes.check::<L>()?;
         Ok(On {
@@ -65,16 +79,18 @@ impl<L: Scripted> Machine for On<L> {
         })
     }
 
-    fn submit(&mut self, call: [u32; 4]) -> Result<(), Decline> {
+    fn submit(&mut self, call: [u32; 4]) -> Result<(), u8> {
         self.nub.submit(
             call[0] as usize,
             call[1],
             call[2] as usize,
             call[3] as usize,
-        )
+        )?;
+        Ok(())
     }
 
-    fn turn(&mut self, thread: u32) -> Result<Report, Decline> {
-        self.nub.turn(thread as usize)
+    fn turn(&mut self, thread: u32) -> Result<Report, u8> {
+        let report = self.nub.turn(thread as usize)?;
+        Ok(in_numbers(report))
     }
 }

@@ -4,9 +4,10 @@
 --     held_at f g o     the same where there may be no machine yet
 --     both a b         the machine of a script that is a or b, as it is built
 --     is_ranked o      the kind whose waiting threads go by the order o, true for ranked
+--     builder_of o     the word of a line that builds a machine of that kind
 use Rattle.std.specs.Prelude.{ℕ, Bool, true, false, List, Some, None, Option, Result}
-use Rattle.nub.specs.declared.Decline.{Decline}
-use Rattle.nub.specs.declared.Report.{Report}
+use Rattle.text.specs.declared.answer.Report.{Report}
+use Rattle.tokens.specs.Word.{Word, first_come, ranked}
 use Rattle.text.specs.declared.held.Held.{Held}
 use Rattle.text.specs.declared.held.Held.TheVariants.{ByArrival, ByRank}
 use Rattle.text.specs.declared.held.Order.{Order}
@@ -26,11 +27,11 @@ held_at f g (Some h) = Some (either_of f g h)
 held_at f g None = None
 
 module _ (a b : Single) where
-  abbrev pub build_both : Bool → List ℕ → Result (Either a.State b.State) Decline
+  abbrev pub build_both : Bool → List ℕ → Result (Either a.State b.State) ℕ
   build_both false ns = made_at arrival (a.build ns)
   build_both true ns = made_at rank (b.build ns)
 
-  abbrev pub submit_both : Either a.State b.State → List ℕ → Result (Unit {0}) Decline
+  abbrev pub submit_both : Either a.State b.State → List ℕ → Result (Unit {0}) ℕ
   submit_both (arrival s) ns = a.submit s ns
   submit_both (rank s) ns = b.submit s ns
 
@@ -38,7 +39,7 @@ module _ (a b : Single) where
   submitted_both (arrival s) ns = arrival (a.submitted s ns)
   submitted_both (rank s) ns = rank (b.submitted s ns)
 
-  abbrev pub turn_both : Either a.State b.State → ℕ → Result Report Decline
+  abbrev pub turn_both : Either a.State b.State → ℕ → Result Report ℕ
   turn_both (arrival s) t = a.turn s t
   turn_both (rank s) t = b.turn s t
 
@@ -52,3 +53,7 @@ module _ (a b : Single) where
 abbrev pub is_ranked : Order → Bool
 is_ranked Arrival = false
 is_ranked Rank = true
+
+abbrev pub builder_of : Order → Word
+builder_of Arrival = first_come
+builder_of Rank = ranked

@@ -1,13 +1,11 @@
 -- What one line does.
 --     Step m X        an answer in X or a refusal, and the nub after it, if there is one
 --     built, submitted, turned   the step of N or K, of S and of T, from the numbers that were read
---     building m k s bs   the step of a line that builds, ranked if k is true, with the bytes bs after its letter
 --     Reply           what is answered to a line that is not refused
 --     replied r       an answer or a refusal, with the bytes of a note in place of where they stand
 --     stepped m s l   the step of the line l where the nub is s
 use Rattle.std.specs.Prelude.{ℕ, Bool, true, false, List, drop, Some, None, Ok, Err, Option, Result, slice_index}
-use Rattle.nub.specs.declared.Decline.{Decline}
-use Rattle.nub.specs.declared.Report.{Report}
+use Rattle.text.specs.declared.answer.Report.{Report}
 use Rattle.text.specs.declared.answer.Refusal.{Refusal}
 use Rattle.text.specs.declared.answer.Refusal.TheVariants.{Nub, Script}
 use Rattle.text.specs.declared.answer.Answer.{Answer}
@@ -25,14 +23,14 @@ pub record Step (m : Model) (X : Type 0) : Type 0 where
 abbrev pub refused : (m : Model) {X : Type 0} → Refusal → Option m.State → Step m X
 refused m r s = record { answer = Err r; state = s }
 
-abbrev pub by_nub : {X : Type 0} → Result X Decline → Result X Refusal
+abbrev pub by_nub : {X : Type 0} → Result X ℕ → Result X Refusal
 by_nub (Ok x) = Ok x
-by_nub (Err d) = Err (Nub d)
+by_nub (Err n) = Err (Nub n)
 
 -- where the nub cannot be built there is still none, so that it may be tried again
-abbrev pub making : (m : Model) → Result m.State Decline → Step m (Unit {0})
+abbrev pub making : (m : Model) → Result m.State ℕ → Step m (Unit {0})
 making m (Ok s) = record { answer = Ok tt; state = Some s }
-making m (Err d) = refused m (Nub d) None
+making m (Err n) = refused m (Nub n) None
 
 abbrev pub built : (m : Model) → Bool → Option m.State → Result (List ℕ) ℕ → Step m (Unit {0})
 built m k s (Err c) = refused m (Script (BadNumber c)) s
@@ -71,14 +69,10 @@ saying f (Err r) = Err r
 abbrev pub answered : (m : Model) {X : Type 0} → (X → Reply) → Step m X → Step m Reply
 answered m f s = record { answer = saying f s.answer; state = s.state }
 
--- a line that builds a machine, ranked if true, by the bytes after its letter
-abbrev pub building : (m : Model) → Bool → Option m.State → List ℕ → Step m Reply
-building m k s bs = answered m (λ _. done) (built m k s (read 5 2 bs))
-
 -- by the word that a line begins with, and the bytes after its letter, which stand from column 2 on
 abbrev pub by_word : (m : Model) → Word → Option m.State → List ℕ → Step m Reply
-by_word m first_come s bs = building m false s bs
-by_word m ranked s bs = building m true s bs
+by_word m first_come s bs = answered m (λ _. done) (built m false s (read 5 2 bs))
+by_word m ranked s bs = answered m (λ _. done) (built m true s (read 5 2 bs))
 by_word m submit s bs = answered m (λ _. done) (submitted m s (read 4 2 bs))
 by_word m turn s bs = answered m reported (turned m s (read 1 2 bs))
 by_word m (note t) s bs = record { answer = Ok (echoed t); state = s }

@@ -6,9 +6,7 @@
 --     written a       what is written of the answer a
 --     line_text n r    what is written of line n
 use Rattle.std.specs.Prelude.{ℕ, List, [], ◌∷◌, ◌++◌, Ok, Err, codes, decimal, Result}
-use Rattle.nub.specs.declared.Report.{Report}
-use Rattle.stages.specs.Names.{status_no, action_no}
-use Rattle.nub.specs.Answers.{decline_no}
+use Rattle.text.specs.declared.answer.Report.{Report}
 use Rattle.text.specs.declared.answer.Refusal.{Refusal}
 use Rattle.text.specs.declared.answer.Refusal.TheVariants.{Nub, Script}
 use Rattle.text.specs.declared.answer.Answer.{Answer}
@@ -16,10 +14,10 @@ use Rattle.tokens.specs.Refusals.{number_of, column_of}
 use Rattle.text.specs.Step.{Reply, done, reported, echoed, reply_of}
 
 abbrev pub shown_report : Report → List ℕ
-shown_report r = codes "T " ++ (decimal (status_no r.status) ++ (codes " " ++ (decimal r.value ++ (codes " " ++ (decimal (action_no r.action) ++ (codes " " ++ decimal r.mask))))))
+shown_report r = codes "T " ++ (decimal r.status ++ (codes " " ++ (decimal r.value ++ (codes " " ++ (decimal r.action ++ (codes " " ++ decimal r.mask))))))
 
 abbrev pub shown_refusal : Refusal → List ℕ
-shown_refusal (Nub d) = codes "nub " ++ decimal (decline_no d)
+shown_refusal (Nub k) = codes "nub " ++ decimal k
 shown_refusal (Script f) = codes "script " ++ (decimal (number_of f) ++ (codes " column " ++ decimal (column_of f)))
 
 abbrev pub refusal : ℕ → Refusal → List ℕ

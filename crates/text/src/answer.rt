@@ -1,23 +1,23 @@
 //! What a line of the script is answered.
 ghost use Rattle.std.specs.Prelude.{◌≡◌};
-ghost use Rattle.text.specs.declared.answer.Refusal.TheVariants.{Nub, Script};
+ghost use Rattle.text.specs.declared.answer.Refusal.TheVariants.{Script};
 
-use nub::{Decline, Report};
 use tokens::fault::Fault;
 
-/// Who refuses a line, and why: the nub or the script.
+/// What a turn reports, in numbers whose meaning is the machine's.
 #[derive(Clone, Copy, PartialEq, Eq, Debug)]
-pub enum Refusal {
-    Nub(Decline),
-    Script(Fault),
+pub struct Report {
+    pub status: u8,
+    pub value: u32,
+    pub action: u8,
+    pub mask: u64,
 }
 
-impl From<Decline> for Refusal {
-    ghost from_gives = { λ decline refusal. refusal ≡ Nub decline };
-
-    fn from(decline: Decline) -> Refusal {
-        Refusal::Nub(decline)
-    }
+/// Who refuses a line, and why: the nub, by its own number, or the script.
+#[derive(Clone, Copy, PartialEq, Eq, Debug)]
+pub enum Refusal {
+    Nub(u8),
+    Script(Fault),
 }
 
 impl From<Fault> for Refusal {

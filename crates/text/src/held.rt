@@ -3,8 +3,8 @@ ghost use Rattle.std.specs.Prelude.{◌≡◌};
 ghost use Rattle.text.specs.Model.{made_at};
 ghost use Rattle.text.specs.Both.{both, either_of, is_ranked};
 
+use crate::answer::Report;
 use crate::machine::Machine;
-use nub::{Decline, Report};
 
 /// How waiting threads go: by arrival, or by rank.
 #[derive(Clone, Copy, PartialEq, Eq, Debug)]
@@ -22,7 +22,7 @@ pub enum Held<A, B> {
 
 impl<A: Machine, B: Machine> Held<A, B> {
     /// A new machine of the kind asked for.
-    pub fn build(order: Order, sizes: [u32; 5]) -> Result<Self, Decline>
+    pub fn build(order: Order, sizes: [u32; 5]) -> Result<Self, u8>
         ensures { made_at (either_of A.Machine.state B.Machine.state) result ≡ (both A.Machine.model B.Machine.model).build (is_ranked order) sizes }
     {
         match order {
@@ -32,7 +32,7 @@ impl<A: Machine, B: Machine> Held<A, B> {
     }
 
     /// A submission to the machine, of whichever kind it is.
-    pub fn submit(&mut self, call: [u32; 4]) -> Result<(), Decline>
+    pub fn submit(&mut self, call: [u32; 4]) -> Result<(), u8>
         ensures answer { result ≡ (both A.Machine.model B.Machine.model).submit (either_of A.Machine.state B.Machine.state self.old) call }
         ensures after { either_of A.Machine.state B.Machine.state self.new ≡ (both A.Machine.model B.Machine.model).submitted (either_of A.Machine.state B.Machine.state self.old) call }
     {
@@ -43,7 +43,7 @@ impl<A: Machine, B: Machine> Held<A, B> {
     }
 
     /// A turn of the machine, of whichever kind it is.
-    pub fn turn(&mut self, thread: u32) -> Result<Report, Decline>
+    pub fn turn(&mut self, thread: u32) -> Result<Report, u8>
         ensures answer { result ≡ (both A.Machine.model B.Machine.model).turn (either_of A.Machine.state B.Machine.state self.old) thread }
         ensures after { either_of A.Machine.state B.Machine.state self.new ≡ (both A.Machine.model B.Machine.model).turned (either_of A.Machine.state B.Machine.state self.old) thread }
     {

@@ -2,9 +2,9 @@
 #![tactic(auto)]
 
 pub mod answer;
-mod cut;
 pub mod held;
 pub mod laws;
+mod lines;
 pub mod machine;
 pub mod run;
 pub mod step;

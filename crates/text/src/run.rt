@@ -6,8 +6,8 @@ ghost use Rattle.text.specs.Written.{line_text};
 ghost use Rattle.text.specs.Script.{script};
 
 use crate::answer::*;
-use crate::cut::Lines;
 use crate::held::Held;
+use crate::lines::Lines;
 use crate::machine::Machine;
 use crate::step::step;
 use crate::write::*;

@@ -1,8 +1,8 @@
 //! What one line does to the nub, and what it is answered.
 ghost use Rattle.std.specs.Prelude.{◌≡◌};
 ghost use Rattle.tokens.specs.Word.{submit, turn};
-ghost use Rattle.text.specs.Both.{both, held_at, is_ranked};
-ghost use Rattle.text.specs.Step.{building, by_word, replied, stepped};
+ghost use Rattle.text.specs.Both.{both, held_at, builder_of};
+ghost use Rattle.text.specs.Step.{by_word, replied, stepped};
 
 use crate::answer::*;
 use crate::held::{Held, Order};
@@ -18,14 +18,14 @@ fn build<'a, A: Machine + Drop, B: Machine + Drop>(
     order: Order,
     text: &[u8],
 ) -> Result<Answer<'a>, Refusal>
-    ensures answer { replied result ≡ (building (both A.Machine.model B.Machine.model) (is_ranked order) (held_at A.Machine.state B.Machine.state nub.old) text.now).answer }
-    ensures after { held_at A.Machine.state B.Machine.state nub.new ≡ (building (both A.Machine.model B.Machine.model) (is_ranked order) (held_at A.Machine.state B.Machine.state nub.old) text.now).state }
+    ensures answer { replied result ≡ (by_word (both A.Machine.model B.Machine.model) (builder_of order) (held_at A.Machine.state B.Machine.state nub.old) text.now).answer }
+    ensures after { held_at A.Machine.state B.Machine.state nub.new ≡ (by_word (both A.Machine.model B.Machine.model) (builder_of order) (held_at A.Machine.state B.Machine.state nub.old) text.now).state }
 {
     let sizes = numbers::<5>(text)?;
     if nub.is_some() {
         return Err(Refusal::Script(Fault::OutOfOrder));
     }
-    *nub = Some(Held::build(order, sizes)?);
+    *nub = Some(Held::build(order, sizes).map_err(Refusal::Nub)?);
     Ok(Answer::Done)
 }
 
@@ -39,7 +39,7 @@ fn submit<'a, A: Machine, B: Machine>(
 {
     let call = numbers::<4>(text)?;
     let nub = nub.as_mut().ok_or(Fault::OutOfOrder)?;
-    nub.submit(call)?;
+    nub.submit(call).map_err(Refusal::Nub)?;
     Ok(Answer::Done)
 }
 
@@ -53,7 +53,8 @@ fn turn<'a, A: Machine, B: Machine>(
 {
     let [thread] = numbers::<1>(text)?;
     let nub = nub.as_mut().ok_or(Fault::OutOfOrder)?;
-    Ok(Answer::Turned(nub.turn(thread)?))
+    let report = nub.turn(thread).map_err(Refusal::Nub)?;
+    Ok(Answer::Turned(report))
 }
 
 /// What a line, without its end, does to the nub, and what it is answered. The letter is looked at first, then the

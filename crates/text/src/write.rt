@@ -3,23 +3,18 @@ ghost use Rattle.std.specs.Prelude.{◌≡◌, ◌++◌, is_ok, if◌then◌else
 ghost use Rattle.text.specs.Written.{shown_report, shown_refusal, written, refusal};
 
 use crate::answer::*;
-use nub::Report;
-use stages::action::Action;
 use std::alloc::AllocError;
 use std::fmt;
 
-// A report of the nub, as it is written. The trait and the report's type are both of other crates.
-#[derive(Clone, Copy)]
-struct Written(Report);
-
-impl fmt::Display for Written {
-    ghost output = { λ w. Some (shown_report w.0) };
+impl fmt::Display for Report {
+    ghost output = { λ r. Some (shown_report r) };
 
     fn fmt<W: fmt::Write>(&self, f: &mut fmt::Formatter<W>) -> fmt::Result {
-        let Written(report) = self;
-        let status = u8::from(report.status);
-        let action = Action::number(report.action);
-        write!(f, "T {status} {} {action} {}", report.value, report.mask)
+        write!(
+            f,
+            "T {} {} {} {}",
+            self.status, self.value, self.action, self.mask
+        )
     }
 }
 
@@ -28,7 +23,7 @@ impl fmt::Display for Refusal {
 
     fn fmt<W: fmt::Write>(&self, f: &mut fmt::Formatter<W>) -> fmt::Result {
         match self {
-            Refusal::Nub(decline) => write!(f, "nub {}", u8::from(*decline)),
+            Refusal::Nub(number) => write!(f, "nub {number}"),
             Refusal::Script(fault) => {
                 write!(f, "script {} column {}", u8::from(*fault), fault.column())
             }
@@ -51,7 +46,7 @@ pub fn write_answer(out: &mut Vec<u8>, answer: Answer<'_>) -> Result<(), AllocEr
     match answer {
         Answer::Done => out.extend_from_slice(b"ok\n"),
         Answer::Turned(report) => {
-            let text = format!(in *out.allocator(); "{}\n", Written(report))?;
+            let text = format!(in *out.allocator(); "{report}\n")?;
             out.extend_from_slice(text.as_bytes())
         }
         Answer::Note(text) => {

@@ -7,9 +7,9 @@ mod tests {
     use std::test::Fail;
     use text::run::run;
 
-    // The action that a turn reports tells the kind: Acquire, 1, by arrival, and Release, 2, by rank.
+    // The action that a turn reports tells the kind: 1 by arrival, 2 by rank.
     fn written(heap: Global, input: &[u8]) -> Result<Vec<u8>, AllocError> {
-        run::<Toy<false>, Toy<true>>(heap, input)
+        run::<Toy<1>, Toy<2>>(heap, input)
     }
 
     // An input, and what is written of it.

@@ -1,13 +1,16 @@
 //! Lines whose take gives the member of the highest rank.
-ghost use Rattle.std.specs.Prelude.{◌≡◌, ◌<◌, true, length, Some, MatchOption};
+ghost use Rattle.std.specs.Prelude.{◌≡◌, ℕ, ◌<◌, true, List, [], length, Some, MatchOption};
 ghost use Rattle.lines.specs.Arrivals.{members, sound, Chosen};
 ghost use Rattle.lines.specs.Ranking.{best, pick, beats};
 ghost use Rattle.lines.specs.Highest.{RankedTakesHighest};
-ghost use Rattle.lines.specs.Lawful.{ranked_serves};
+ghost use Rattle.lines.specs.Choosing.{ranked};
+ghost use Rattle.lines.specs.Lawful.{choosing_laws, sound_members, ranked_serves, ranked_empty};
 ghost use Rattle.lines.specs.Best.{best_picks};
 
 use crate::arrival::Arrival;
 use crate::choice::Choice;
+use crate::decline::Decline;
+use crate::set::LineSet;
 use crate::waiting::Waiting;
 
 /// Chooses the member of the highest rank, and among equals the lowest thread number. Each thread has a fixed rank of 0 to
@@ -74,6 +77,50 @@ impl Choice<32> for Highest {
 ///
 /// A take gives the member of the highest rank, and among equals the lowest thread number.
 pub type Ranked = Waiting<Highest, 32>;
+
+impl LineSet for Ranked {
+    const SERVES: usize = 32;
+
+    type Maker = [u8; 32];
+
+    ghost kind = { ranked };
+
+    ghost state = { λ s. (s.choice.ranks, s.arrivals.items) };
+
+    ghost fresh = { λ ranks. (ranks, []) };
+
+    ghost lawful = { choosing_laws 32 (List ℕ) best best_picks };
+
+    ghost sound = { λ s. sound_members 32 s.arrivals.items s.apart };
+
+    ghost serving = { ranked_serves };
+
+    ghost new = { λ ranks l. ranked_empty ranks l };
+
+    fn limit() -> usize {
+        Self::SERVES
+    }
+
+    fn make(ranks: [u8; 32]) -> Self {
+        Waiting::made(ranks)
+    }
+
+    fn add(&mut self, line: usize, thread: usize) -> Result<(), Decline> {
+        self.join(line, thread)
+    }
+
+    fn take(&mut self, line: usize) -> Result<Option<usize>, Decline> {
+        self.take_chosen(line)
+    }
+
+    fn remove(&mut self, line: usize, thread: usize) -> Result<(), Decline> {
+        self.leave(line, thread)
+    }
+
+    fn is_empty(&self, line: usize) -> Result<bool, Decline> {
+        self.has_none(line)
+    }
+}
 
 /// States whom a ranked line takes, whatever its members and their ranks are.
 ///

@@ -29,9 +29,6 @@ pub trait LineSet: Sized {
     /// What a new set is made from.
     type Maker;
 
-    // The same number, for clauses.
-    ghost SERVES: { ℕ };
-
     // The kind as a machine: its states, the members of each line, the choice, and the state after each operation.
     ghost kind: { Kind };
 
@@ -43,8 +40,7 @@ pub trait LineSet: Sized {
 
     /// `SERVES`, as a number that contracts can speak of.
     fn limit() -> usize
-        ensures value { result ≡ kind.serves }
-        ensures constant { result ≡ SERVES };
+        ensures { result ≡ kind.serves };
 
     /// A set whose lines are all empty.
     fn make(maker: Self::Maker) -> Self

@@ -37,7 +37,7 @@ impl fmt::Display for Edge {
 
 /// The edges of one stage in one call, each with the way of seeing things that leads to it.
 #[derive(Drop)]
-pub struct Edges(Vec<(Case, Edge)>);
+pub struct Edges<'a>(Vec<(&'a Case, Edge)>);
 
 fn edge_of(reached: &Reached, stage: Stage, seen: &Case) -> Option<Edge> {
     let at = Place {
@@ -55,32 +55,58 @@ fn edge_of(reached: &Reached, stage: Stage, seen: &Case) -> Option<Edge> {
     })
 }
 
-impl Edges {
-    pub(crate) fn at(alloc: Global, reached: &Reached, stage: Stage) -> Result<Edges, AllocError> {
+impl<'a> Edges<'a> {
+    pub(crate) fn at(
+        alloc: Global,
+        reached: &'a Reached,
+        stage: Stage,
+    ) -> Result<Edges<'a>, AllocError> {
         let mut edges = Vec::new(alloc);
-        for way in ways(alloc)? {
-            if let Some(edge) = edge_of(reached, stage, &way) {
+        for way in reached.ways() {
+            if let Some(edge) = edge_of(reached, stage, way) {
                 edges.push((way, edge))?;
             }
         }
         Ok(Edges(edges))
     }
 
-    // Whether two ways of a case that differ in this thing alone come to different edges.
-    fn tell(&self, case: &Case, thing: Thing) -> bool {
-        self.0.iter().any(|(way, edge)| {
-            case.fits(way)
-                && self
-                    .0
-                    .iter()
-                    .any(|(other, to)| edge != to && way.differs_at(thing, other))
-        })
+    // Whether all ways come to one edge.
+    fn agree(&self) -> bool {
+        self.0
+            .first()
+            .is_none_or(|(_, edge)| self.0.iter().all(|(_, to)| edge == to))
+    }
+
+    // The ways that come to another edge where one thing is on that they have off, each with that thing.
+    fn turning(&self, alloc: Global) -> Result<Vec<(Thing, &'a Case)>, AllocError> {
+        let mut turning = Vec::new(alloc);
+        if self.agree() {
+            return Ok(turning);
+        }
+        for (way, edge) in self.0.iter() {
+            for (other, to) in self.0.iter() {
+                if edge == to {
+                    continue;
+                }
+                if let Some(thing) = way.turns_on(other) {
+                    turning.push((thing, *way))?;
+                }
+            }
+        }
+        Ok(turning)
     }
 
     /// The cases that tell the edges apart, each with its edge.
     pub(crate) fn cases(&self, alloc: Global) -> Result<Vec<(Case, Edge)>, AllocError> {
         let mut cases = Vec::new(alloc);
-        for case in Case::split(alloc, |case, thing| self.tell(case, thing))? {
+        let turning = self.turning(alloc)?;
+        // Whether two ways of a case that differ in this thing alone come to different edges.
+        let tells = |case: &Case, thing: Thing| {
+            turning
+                .iter()
+                .any(|(at, way)| *at == thing && case.fits(way))
+        };
+        for case in Case::split(alloc, tells)? {
             if let Some((_, edge)) = self.0.iter().find(|(way, _)| case.fits(way)) {
                 cases.push((case, *edge))?;
             }

@@ -77,10 +77,13 @@ impl Place {
 // A place for each stage, flag and outcome suffices.
 const ROOM: usize = 128;
 
-/// The records reached in one call, no two at one place. A list, since it is gone through while it grows, and some are looked for
-/// by a part of their place.
+/// The records reached in one call, no two at one place, and all ways in which a turn sees things. A list, since it is gone
+/// through while it grows, and some are looked for by a part of their place.
 #[derive(Drop)]
-pub struct Reached(Vec<(Place, Thread)>);
+pub struct Reached {
+    records: Vec<(Place, Thread)>,
+    ways: Vec<Case>,
+}
 
 impl Reached {
     /// The records of a call.
@@ -88,15 +91,19 @@ impl Reached {
         let ways = ways(alloc)?;
         let mut thread = Thread::new();
         thread.start(call);
-        let mut reached = Reached(Vec::new(alloc));
+        let mut reached = Reached {
+            records: Vec::new(alloc),
+            ways: Vec::new(alloc),
+        };
         reached.note(thread)?;
         // By index, since the list grows on the way.
         for i in 0..ROOM {
-            let Some((_, from)) = reached.0.get(i).copied() else {
+            let Some((_, from)) = reached.records.get(i).copied() else {
                 break;
             };
             reached.go_on(from, ways.as_slice())?;
         }
+        reached.ways = ways;
         Ok(reached)
     }
 
@@ -104,7 +111,7 @@ impl Reached {
     fn note(&mut self, thread: Thread) -> Result<(), AllocError> {
         let place = Place::of(thread);
         if !place.stage.is_idle() && self.find(|known| known == place).is_none() {
-            self.0.push((place, thread))?;
+            self.records.push((place, thread))?;
         }
         Ok(())
     }
@@ -118,6 +125,10 @@ impl Reached {
             self.note(after)?;
         }
         for way in ways {
+            // A turn sees neither the flag nor the outcome: they are the record's own.
+            if way.has(Thing::Flag) || way.has(Thing::Alerted) {
+                continue;
+            }
             if let Some((after, _)) = turned(from, sight(from, way)) {
                 self.note(after)?;
             }
@@ -125,11 +136,16 @@ impl Reached {
         Ok(())
     }
 
+    /// All ways in which a turn can see things.
+    pub(crate) fn ways(&self) -> &[Case] {
+        self.ways.as_slice()
+    }
+
     /// The first record whose place is as asked.
     pub(crate) fn find<F: Fn(Place) -> bool>(&self, asked: F) -> Option<Thread>
         requires { F.IsAlwaysCallable asked }
     {
-        let (_, thread) = self.0.iter().find(|(place, _)| asked(*place))?;
+        let (_, thread) = self.records.iter().find(|(place, _)| asked(*place))?;
         Some(*thread)
     }
 }

@@ -88,11 +88,19 @@ impl Case {
             .all(|(thing, on)| other.at(*thing) == Some(*on))
     }
 
-    /// Whether another case says another thing of this thing, and the same of all others.
-    pub(crate) fn differs_at(&self, thing: Thing, other: &Case) -> bool {
-        THINGS
-            .iter()
-            .all(|at| (self.at(*at) == other.at(*at)) == (*at != thing))
+    /// The one thing that another case says is on and this one says is off, where they say the same of all others.
+    pub(crate) fn turns_on(&self, other: &Case) -> Option<Thing> {
+        let mut turned = None;
+        for thing in THINGS {
+            let (off, on) = (self.at(thing), other.at(thing));
+            if off != on {
+                if turned.is_some() || off != Some(false) || on != Some(true) {
+                    return None;
+                }
+                turned = Some(thing);
+            }
+        }
+        turned
     }
 
     /// What both say.

@@ -3,7 +3,7 @@ ghost use Rattle.std.specs.Prelude.{◌≡◌, ◌+◌, ◌<◌, length, MatchOp
 ghost use Rattle.std.specs.Iterator.{at_most};
 ghost use Rattle.text.specs.Script.{first_line, after_line};
 
-use tokens::token::front_len;
+use tokens::token::passing_len;
 
 /// The lines of what is left of an input, each ended by a byte 10, the last perhaps without.
 // Not the library's `split_inclusive`: a loop over it gets no proof in a function with type parameters.
@@ -25,7 +25,7 @@ impl<'a> Iterator for Lines<'a> {
         if self.rest.is_empty() {
             return None;
         }
-        let n = front_len(self.rest, |b| *b != b'\n');
+        let n = passing_len(self.rest, |b| *b != b'\n');
         let (line, after) = self.rest.split_at(n);
         self.rest = after.get(1..).unwrap_or(after);
         Some(line)

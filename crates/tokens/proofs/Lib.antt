@@ -1,5 +1,4 @@
 -- Lemmas by topic: of tokens, of numbers, and the laws.
-pub mod Words
 pub mod Values
 pub mod Reading
 pub mod Right

@@ -4,11 +4,11 @@ use Rattle.std.proofs.lemmas.List.{at_drop_more}
 use Rattle.std.proofs.lemmas.Bool.{le-leb, lt-leb, and_from, and_right, cond-true, cond-false}
 use Rattle.tokens.specs.Number.{value_on, value, worth}
 
-value_on_ge : (n : ℕ) (ds : List ℕ) → n ≤ value_on n ds
+pub value_on_ge : (n : ℕ) (ds : List ℕ) → n ≤ value_on n ds
 value_on_ge n [] = omega arith
 value_on_ge n (d ∷ ds) = omega (arith, value_on_ge (n * 10 + (d - 48)) ds)
 
-value_on_more : (n : ℕ) (ds : List ℕ) (i : ℕ) → i < length ds → value_on n (drop i ds) ≡ value_on (n * 10 + (get_or ds i 0 - 48)) (drop (i + 1) ds)
+pub value_on_more : (n : ℕ) (ds : List ℕ) (i : ℕ) → i < length ds → value_on n (drop i ds) ≡ value_on (n * 10 + (get_or ds i 0 - 48)) (drop (i + 1) ds)
 value_on_more n ds i h = at_drop_more (value_on n) ds i 0 h
 
 -- one digit more is at least that

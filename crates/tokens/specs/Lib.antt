@@ -1,4 +1,5 @@
 -- The definitions that contracts of tokens and numbers cite, in the order of reading.
+pub mod Front
 pub mod Number
 pub mod Word
 pub mod Numbers

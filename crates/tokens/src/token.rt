@@ -2,11 +2,40 @@
 ghost use Rattle.std.specs.Prelude.{◌≡◌, ℕ, Bool, ◌≤◌, length};
 ghost use Rattle.std.specs.Fn.{FnReturnsAt};
 ghost use Rattle.std.specs.List.{prefix_len};
+ghost use Rattle.tokens.specs.Front.{is_in, front};
 ghost use Rattle.tokens.specs.Number.{worth};
 ghost use Rattle.tokens.specs.Word.{opened, opening, spelt, numeral, reach};
 
+/// A class of bytes: the digits, or all but the end of a line.
+#[derive(Clone, Copy, PartialEq, Eq, Debug)]
+pub enum Class {
+    Digit,
+    Inner,
+}
+
+impl Class {
+    // Whether b is of this class.
+    fn holds(self, b: u8) -> bool
+        ensures { result ≡ is_in self b }
+    {
+        match self {
+            Class::Digit => b'0' <= b && b <= b'9',
+            Class::Inner => b != b'\n',
+        }
+    }
+}
+
+/// How many bytes at the front of s are of the class.
+pub fn front_len(s: &[u8], class: Class) -> usize
+    ensures value { result ≡ front class s.now }
+    ensures within { result ≤ length s.now }
+{
+    passing_len(s, |b| class.holds(*b))
+}
+
 /// How many bytes at the front of s pass the test.
-pub fn front_len<F: Fn(&u8) -> bool>(s: &[u8], test: F) -> usize
+// Apart from `front_len`, which asks nothing: whatever is passed a closure asks that it may be called.
+pub fn passing_len<F: Fn(&u8) -> bool>(s: &[u8], test: F) -> usize
     requires { F.IsAlwaysCallable test }
     ensures value { (p : ℕ → Bool) → ((b : ℕ) (r : Bool) → FnReturnsAt F.Fn test b r → r ≡ p b) → result ≡ prefix_len p s.now }
     ensures within { result ≤ length s.now }
@@ -74,7 +103,7 @@ pub fn number(rest: &[u8]) -> Result<Token<'_>, Misplaced>
     let Some((b' ', after)) = rest.split_first() else {
         return Err(Misplaced { on: 0 });
     };
-    let n = front_len(after, |b| b.is_ascii_digit());
+    let n = front_len(after, Class::Digit);
     if n == 0 {
         return Err(Misplaced { on: 1 });
     }

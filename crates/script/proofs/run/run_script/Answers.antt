@@ -9,6 +9,6 @@ pub returns : goal.returns
 returns c =
     let input = c.args.input.now in
     record {
-      text = c.run.ensures;
-      run = IfOk-weaker c.run.result (λ v. vec_items v ≡ written input) (λ v. Played input (vec_items v)) (λ v e. subst (Played input) (sym e) (plays_right input)) c.run.ensures;
+      text = c.ran.ensures;
+      run = IfOk-weaker c.ran.result (λ v. vec_items v ≡ written input) (λ v. Played input (vec_items v)) (λ v e. subst (Played input) (sym e) (plays_right input)) c.ran.ensures;
     }

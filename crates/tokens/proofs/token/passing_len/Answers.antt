@@ -3,7 +3,7 @@ use Rattle.std.proofs.lemmas.Iterator.{YieldsList-from_slice}
 use Rattle.std.proofs.lemmas.Iterator.Consumers.{YieldsList-at, count_from_yields_List}
 use Rattle.std.proofs.lemmas.Iterator.Search.{YieldsList-from_take_while}
 use Rattle.std.proofs.lemmas.List.Folds.{length-prefix_len}
-use Rattle.tokens.proofs.token.front_len.Goals as goal
+use Rattle.tokens.proofs.token.passing_len.Goals as goal
 
 pub returns-clause-value : goal.returns-clause-value
 returns-clause-value g c p h =

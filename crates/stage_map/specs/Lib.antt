@@ -1,1 +1,3 @@
+pub mod Cases
+pub mod Pages
 pub mod Taking

@@ -1,79 +1,90 @@
 //! Sets of calls.
-ghost use Rattle.std.specs.Prelude.{◌≡◌, ◌↔◌, IsTrue, OnOk, Contains, [], vec_len};
+ghost use Rattle.std.specs.Prelude.{◌≡◌, IsTrue, true, false, filter, length};
 ghost use Rattle.stages.specs.declared.call.Call.{Call};
+ghost use Rattle.stage_map.specs.Cases.{has_call, with_call};
 
 use crate::names::*;
+use crate::text::*;
 use stages::call::Call;
-use std::alloc::{AllocError, Global};
+use std::fmt;
+use std::fmt::Write;
 
-/// A set of calls, eleven at the most. A `Vec`, since calls have no order to sort them by.
-#[derive(Drop)]
-pub struct Calls(Vec<Call>);
+/// A set of calls, whatever their objects: for each in the order of the codes, whether it has it.
+#[derive(Clone, Copy, Default, PartialEq, Eq)]
+pub struct Calls {
+    of: [bool; 11],
+}
 
 impl Calls {
-    pub(crate) fn none(alloc: Global) -> Calls
-        ensures { result.0.items ≡ [] }
+    pub(crate) fn none() -> Calls
+        ensures { (call : Call) → has_call result call ≡ false }
     {
-        Calls(Vec::new(alloc))
+        Calls { of: [false; 11] }
     }
 
-    fn has(&self, call: Call) -> bool
-        ensures { IsTrue result ↔ Contains self.now.0.items call }
+    fn has(self, call: Call) -> bool
+        ensures { result ≡ has_call self call }
     {
-        self.0.contains(&call)
+        self.of[place(call)]
     }
 
-    pub(crate) fn add(&mut self, call: Call) -> Result<(), AllocError>
-        ensures added { OnOk result (Contains self.new.0.items call) }
-        ensures kept { (other : Call) → Contains self.old.0.items other → Contains self.new.0.items other }
+    pub(crate) fn add(&mut self, call: Call)
+        ensures whole { self.new ≡ with_call self.old call }
+        ensures added { has_call self.new call ≡ true }
+        ensures kept { (other : Call) → IsTrue (has_call self.old other) → IsTrue (has_call self.new other) }
     {
-        if !self.has(call) {
-            self.0.push(call)?;
-        }
-        Ok(())
+        self.of[place(call)] = true;
     }
 
-    pub(crate) fn len(&self) -> usize
-        ensures { result ≡ vec_len self.now.0 }
+    pub(crate) fn len(self) -> usize
+        ensures { result ≡ length (filter (λ has. has) self.of) }
     {
-        self.0.len()
+        self.of.iter().filter(|has| **has).count()
     }
 
     /// The calls here that are not there.
-    fn without(&self, there: &Calls) -> Result<Calls, AllocError> {
-        let left = self.0.iter().copied().filter(|call| !there.has(*call));
-        Ok(Calls(left.collect(*self.0.allocator())?))
+    fn without(self, there: Calls) -> Calls {
+        let mut left = Calls::none();
+        for (call, _) in CALLS {
+            if self.has(call) && !there.has(call) {
+                left.add(call);
+            }
+        }
+        left
     }
 
     /// Whether all calls there are here.
-    pub(crate) fn covers(&self, there: &Calls) -> bool {
-        there.0.iter().all(|call| self.has(*call))
+    pub(crate) fn covers(self, there: Calls) -> bool {
+        there.without(self).len() == 0
     }
 
     /// Their names, in the order of the calls' codes.
-    pub(crate) fn names(&self, alloc: Global) -> Result<String, AllocError> {
-        let names: Vec<&str> = CALLS
-            .iter()
-            .filter(|(call, _)| self.has(*call))
-            .map(|(_, name)| *name)
-            .collect(alloc)?;
-        names.as_slice().join(alloc, ", ")
+    pub(crate) fn names(self) -> Result<Line, fmt::Error> {
+        let mut names = Line::new();
+        for (call, name) in CALLS {
+            if self.has(call) {
+                add_words(&mut names, name)?;
+            }
+        }
+        Ok(names)
     }
 
     /// The same in short, where `all` are those that there can be: nothing for all of them, and who is left out where that is one
     /// alone.
-    pub(crate) fn names_among(&self, all: &Calls, alloc: Global) -> Result<String, AllocError> {
-        let left = all.without(self)?;
+    pub(crate) fn names_among(self, all: Calls) -> Result<Line, fmt::Error> {
+        let left = all.without(self);
+        let mut names = Line::new();
         match left.len() {
-            0 => Ok(String::new(alloc)),
-            1 if self.len() > 1 => format!(in alloc; "not {}", left.names(alloc)?),
-            _ if self.is_waits() => String::from_str(alloc, "a wait"),
-            _ => self.names(alloc),
+            0 => {}
+            1 if self.len() > 1 => write!(names, "not {}", left.names()?)?,
+            _ if self.is_waits() => names.write_str("a wait")?,
+            _ => return self.names(),
         }
+        Ok(names)
     }
 
     // Wait and AlertWait, no more and no less.
-    fn is_waits(&self) -> bool {
+    fn is_waits(self) -> bool {
         CALLS
             .iter()
             .all(|(call, _)| self.has(*call) == is_wait(*call))

@@ -1,9 +1,10 @@
 //! What the turns at a stage come to, and the cases that tell them apart.
+use crate::full::Full;
 use crate::reach::*;
 use crate::seen::*;
+use arrayvec::ArrayVec;
 use stages::action::*;
 use stages::stage::Stage;
-use std::alloc::{AllocError, Global};
 use std::fmt;
 
 /// What a turn comes to.
@@ -13,6 +14,18 @@ pub struct Edge {
     pub action: Option<Action>,
     pub status: Status,
     pub value: u32,
+}
+
+/// What stands where a list has no edge.
+impl Default for Edge {
+    fn default() -> Edge {
+        Edge {
+            next: Stage::Idle,
+            action: None,
+            status: Status::On,
+            value: 0,
+        }
+    }
 }
 
 impl fmt::Display for Edge {
@@ -35,11 +48,18 @@ impl fmt::Display for Edge {
     }
 }
 
+/// Edges, each with a case that comes to it: no more than there are ways of seeing things.
+pub type EdgeList = ArrayVec<(Case, Edge), 64>;
+
+/// Ways that come to another edge where one thing is on that they have off, each with that thing. Each of the six things is off
+/// in half of the sixty-four ways.
+type Turning = ArrayVec<(Thing, Case), 192>;
+
 /// The edges of one stage in one call, each with the way of seeing things that leads to it.
 #[derive(Drop)]
-pub struct Edges<'a>(Vec<(&'a Case, Edge)>);
+pub struct Edges(EdgeList);
 
-fn edge_of(reached: &Reached, stage: Stage, seen: &Case) -> Option<Edge> {
+fn edge_of(reached: &Reached, stage: Stage, seen: Case) -> Option<Edge> {
     let at = Place {
         stage,
         flag: seen.has(Thing::Flag),
@@ -55,16 +75,12 @@ fn edge_of(reached: &Reached, stage: Stage, seen: &Case) -> Option<Edge> {
     })
 }
 
-impl<'a> Edges<'a> {
-    pub(crate) fn at(
-        alloc: Global,
-        reached: &'a Reached,
-        stage: Stage,
-    ) -> Result<Edges<'a>, AllocError> {
-        let mut edges = Vec::new(alloc);
+impl Edges {
+    pub(crate) fn at(reached: &Reached, stage: Stage) -> Result<Edges, Full> {
+        let mut edges = EdgeList::new();
         for way in reached.ways() {
-            if let Some(edge) = edge_of(reached, stage, way) {
-                edges.push((way, edge))?;
+            if let Some(edge) = edge_of(reached, stage, *way) {
+                edges.try_push((*way, edge))?;
             }
         }
         Ok(Edges(edges))
@@ -78,8 +94,8 @@ impl<'a> Edges<'a> {
     }
 
     // The ways that come to another edge where one thing is on that they have off, each with that thing.
-    fn turning(&self, alloc: Global) -> Result<Vec<(Thing, &'a Case)>, AllocError> {
-        let mut turning = Vec::new(alloc);
+    fn turning(&self) -> Result<Turning, Full> {
+        let mut turning = Turning::new();
         if self.agree() {
             return Ok(turning);
         }
@@ -88,8 +104,8 @@ impl<'a> Edges<'a> {
                 if edge == to {
                     continue;
                 }
-                if let Some(thing) = way.turns_on(other) {
-                    turning.push((thing, *way))?;
+                if let Some(thing) = way.turns_on(*other) {
+                    turning.try_push((thing, *way))?;
                 }
             }
         }
@@ -97,18 +113,18 @@ impl<'a> Edges<'a> {
     }
 
     /// The cases that tell the edges apart, each with its edge.
-    pub(crate) fn cases(&self, alloc: Global) -> Result<Vec<(Case, Edge)>, AllocError> {
-        let mut cases = Vec::new(alloc);
-        let turning = self.turning(alloc)?;
+    pub(crate) fn cases(&self) -> Result<EdgeList, Full> {
+        let mut cases = EdgeList::new();
+        let turning = self.turning()?;
         // Whether two ways of a case that differ in this thing alone come to different edges.
-        let tells = |case: &Case, thing: Thing| {
+        let tells = |case: Case, thing: Thing| {
             turning
                 .iter()
-                .any(|(at, way)| *at == thing && case.fits(way))
+                .any(|(at, way)| *at == thing && case.fits(*way))
         };
-        for case in Case::split(alloc, tells)? {
-            if let Some((_, edge)) = self.0.iter().find(|(way, _)| case.fits(way)) {
-                cases.push((case, *edge))?;
+        for case in &Case::split(tells)? {
+            if let Some((_, edge)) = self.0.iter().find(|(way, _)| case.fits(*way)) {
+                cases.try_push((*case, *edge))?;
             }
         }
         Ok(cases)

@@ -4,6 +4,7 @@
 mod arrows;
 mod calls;
 mod edge;
+mod full;
 mod names;
 mod page;
 mod paths;
@@ -12,16 +13,19 @@ mod probe;
 mod reach;
 mod seen;
 mod table;
+mod text;
 mod walk;
 
 use arrows::Map;
+use paths::Paths;
 use std::io;
+use table::Table;
+use walk::Walks;
 
 fn main(rt: HostRuntime) -> io::Result<()> {
-    let alloc = rt.alloc();
-    let map = Map::explored(alloc)?;
-    let table = table::text(alloc, &map)?;
-    let paths = paths::text(alloc, &map)?;
-    let walks = walk::text(alloc)?;
-    print!(rt; "{table}\n{paths}\n{walks}")
+    let mut map = Map::new();
+    map.explore()?;
+    let table = Table(&map);
+    let paths = Paths(&map);
+    print!(rt; "{table}\n{paths}\n{Walks}")
 }

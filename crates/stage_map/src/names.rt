@@ -1,7 +1,8 @@
 //! Lists of all stages and all calls.
-ghost use Rattle.std.specs.Prelude.{◌≡◌, Some};
+ghost use Rattle.std.specs.Prelude.{◌≡◌, ◌<◌, Some};
 ghost use Rattle.stages.specs.Calls.{kind_of};
 ghost use Rattle.stages.specs.Names.{is_wait};
+ghost use Rattle.stage_map.specs.Cases.{call_place};
 
 use stages::call::Call;
 use stages::stage::Stage;
@@ -34,4 +35,24 @@ pub(crate) fn is_wait(call: Call) -> bool
     ensures { result ≡ is_wait (kind_of (Some call)) }
 {
     matches!(&call, Call::Wait(_, _) | Call::AlertWait(_, _))
+}
+
+/// The place of a call in the order of the codes, whatever its objects.
+pub(crate) fn place(call: Call) -> usize
+    ensures value { result ≡ call_place call }
+    ensures fits { result < 11 }
+{
+    match call {
+        Call::Acquire(_) => 0,
+        Call::Release(_) => 1,
+        Call::Wait(_, _) => 2,
+        Call::Signal(_) => 3,
+        Call::Broadcast(_) => 4,
+        Call::P(_) => 5,
+        Call::V(_) => 6,
+        Call::Alert(_) => 7,
+        Call::TestAlert => 8,
+        Call::AlertP(_) => 9,
+        Call::AlertWait(_, _) => 10,
+    }
 }

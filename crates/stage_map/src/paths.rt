@@ -5,7 +5,7 @@ use crate::picture::Cell::*;
 use crate::picture::*;
 use stages::stage::Stage;
 use stages::stage::Stage::*;
-use std::alloc::{AllocError, Global};
+use std::fmt;
 
 const NONE: [Cell; 4] = [Blank, Blank, Blank, Blank];
 
@@ -63,38 +63,39 @@ Below a box: arrows to stages that are not beside it. taken: another thread's tu
 gate's, at Sig from a condition's. A dotted box is drawn with its own arrows in another picture.
 ";
 
-// The stages that the pictures have with all their arrows.
-fn homes(alloc: Global) -> Result<Vec<Stage>, AllocError> {
-    PATHS
+// Whether the pictures have a stage with all its arrows, and have it so only once.
+fn is_drawn_once(stage: Stage) -> bool {
+    let mut homes = PATHS
         .iter()
         .flat_map(|(_, grid)| grid.iter())
         .flat_map(|cells| cells.iter())
-        .filter_map(|cell| cell.home())
-        .collect(alloc)
+        .filter(|cell| cell.home() == Some(stage));
+    homes.next().is_some() && homes.next().is_none()
 }
 
-/// All paths, and how many of the stages and of the explored arrows they have.
-pub(crate) fn text(alloc: Global, map: &Map) -> Result<String, AllocError> {
-    let mut text = format!(in alloc; "THE PATHS\n\n{LEGEND}\n")?;
-    let mut drawn: usize = 0;
-    for (title, grid) in &PATHS {
-        let picture = Picture::of(alloc, map, grid)?;
-        let lines = picture.page.lines(alloc)?;
-        writeln!(text, "{title}\n\n{lines}")?;
-        // Counted here: the loop is left early where memory fails.
-        drawn = drawn.saturating_add(picture.arrows);
+/// All paths of a map, and how many of the stages and of the explored arrows they have.
+#[derive(Clone, Copy)]
+pub struct Paths<'a>(pub &'a Map);
+
+impl<'a> fmt::Display for Paths<'a> {
+    fn fmt<W: fmt::Write>(&self, f: &mut fmt::Formatter<W>) -> fmt::Result {
+        writeln!(f, "THE PATHS\n\n{LEGEND}")?;
+        let mut drawn: usize = 0;
+        for (title, grid) in &PATHS {
+            let picture = Picture::of(self.0, grid)?;
+            let page = &picture.page;
+            writeln!(f, "{title}\n\n{page}")?;
+            // Counted here: the loop is left early where there is no room.
+            drawn = drawn.saturating_add(picture.arrows);
+        }
+        let once = STAGES.iter().filter(|stage| is_drawn_once(**stage)).count();
+        writeln!(f, "stages drawn once: {once} of 31 besides Idle")?;
+        // No `sum`: that it fits is not proved.
+        let all = self
+            .0
+            .stages()
+            .iter()
+            .fold(0usize, |n, arrows| n.saturating_add(arrows.list.len()));
+        writeln!(f, "arrows drawn: {drawn} of {all} explored")
     }
-    let homes = homes(alloc)?;
-    let once = STAGES
-        .iter()
-        .filter(|stage| homes.iter().filter(|home| home == stage).count() == 1)
-        .count();
-    writeln!(text, "stages drawn once: {once} of 31 besides Idle")?;
-    // No `sum`: that it fits is not proved.
-    let all = map
-        .stages()
-        .iter()
-        .fold(0usize, |n, arrows| n.saturating_add(arrows.list.len()));
-    writeln!(text, "arrows drawn: {drawn} of {all} explored")?;
-    Ok(text)
 }

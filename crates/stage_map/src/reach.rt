@@ -1,25 +1,26 @@
 //! The records that a thread can come to in a call: by its own turns, whatever they see, by being alerted, and by being taken
 //! from a line.
 ghost use Rattle.std.specs.Prelude.{◌≡◌, ◌↔◌, IsTrue, true, Some, None};
-ghost use Rattle.std.specs.BTreeMap.{get};
 ghost use Rattle.stages.specs.declared.stage.Stage.{Stage};
 ghost use Rattle.thread.specs.Turns.{thread_after, step_after};
+ghost use Rattle.stage_map.specs.Cases.{says};
 ghost use Rattle.stage_map.specs.Taking.{taken_from};
 
+use crate::full::Full;
 use crate::probe;
 use crate::seen::*;
+use arrayvec::ArrayVec;
 use stages::call::Call;
 use stages::marks::*;
 use stages::stage::Stage;
 use stages::step::*;
-use std::alloc::{AllocError, Global};
 use thread::record::Thread;
 
 /// What a turn of this record sees. A Read keeps the count 0, so that 0 is the kept count from then on, and 1 is another.
-pub(crate) fn sight(thread: Thread, seen: &Case) -> Sight
-    ensures spin { IsTrue result.spin ↔ (get ⟦<Thing as Ord>⟧.cmp seen.now.0 Thing.Spin ≡ Some true) }
-    ensures bit { IsTrue result.bit ↔ (get ⟦<Thing as Ord>⟧.cmp seen.now.0 Thing.Bit ≡ Some true) }
-    ensures empty { IsTrue result.empty ↔ (get ⟦<Thing as Ord>⟧.cmp seen.now.0 Thing.Empty ≡ Some true) }
+pub(crate) fn sight(thread: Thread, seen: Case) -> Sight
+    ensures spin { IsTrue result.spin ↔ (says seen Thing.Spin ≡ Some true) }
+    ensures bit { IsTrue result.bit ↔ (says seen Thing.Bit ≡ Some true) }
+    ensures empty { IsTrue result.empty ↔ (says seen Thing.Empty ≡ Some true) }
     ensures read { thread.stage ≡ Stage.Read → result.count ≡ 0 }
 {
     let other = thread.stage() != Stage::Read && seen.has(Thing::Other);
@@ -74,6 +75,29 @@ impl Place {
     }
 }
 
+/// A record that was reached, and its place.
+#[derive(Clone, Copy)]
+pub struct Visit {
+    place: Place,
+    thread: Thread,
+}
+
+impl Visit {
+    fn of(thread: Thread) -> Visit {
+        Visit {
+            place: Place::of(thread),
+            thread,
+        }
+    }
+}
+
+/// What stands where a list has no record.
+impl Default for Visit {
+    fn default() -> Visit {
+        Visit::of(Thread::new())
+    }
+}
+
 // A place for each stage, flag and outcome suffices.
 const ROOM: usize = 128;
 
@@ -81,43 +105,43 @@ const ROOM: usize = 128;
 /// through while it grows, and some are looked for by a part of their place.
 #[derive(Drop)]
 pub struct Reached {
-    records: Vec<(Place, Thread)>,
-    ways: Vec<Case>,
+    records: ArrayVec<Visit, ROOM>,
+    ways: Cases,
 }
 
 impl Reached {
     /// The records of a call.
-    pub(crate) fn by(alloc: Global, call: Call) -> Result<Reached, AllocError> {
-        let ways = ways(alloc)?;
+    pub(crate) fn by(call: Call) -> Result<Reached, Full> {
+        let ways = ways()?;
         let mut thread = Thread::new();
         thread.start(call);
         let mut reached = Reached {
-            records: Vec::new(alloc),
-            ways: Vec::new(alloc),
+            records: ArrayVec::new(),
+            ways: Cases::new(),
         };
         reached.note(thread)?;
         // By index, since the list grows on the way.
         for i in 0..ROOM {
-            let Some((_, from)) = reached.records.get(i).copied() else {
+            let Some(from) = reached.records.get(i).copied() else {
                 break;
             };
-            reached.go_on(from, ways.as_slice())?;
+            reached.go_on(from.thread, ways.as_slice())?;
         }
         reached.ways = ways;
         Ok(reached)
     }
 
     // Notes a record, unless its call is finished or there is one at its place.
-    fn note(&mut self, thread: Thread) -> Result<(), AllocError> {
-        let place = Place::of(thread);
-        if !place.stage.is_idle() && self.find(|known| known == place).is_none() {
-            self.records.push((place, thread))?;
+    fn note(&mut self, thread: Thread) -> Result<(), Full> {
+        let visit = Visit::of(thread);
+        if !visit.place.stage.is_idle() && self.find(|known| known == visit.place).is_none() {
+            self.records.try_push(visit)?;
         }
         Ok(())
     }
 
     // Notes all that can come next.
-    fn go_on(&mut self, from: Thread, ways: &[Case]) -> Result<(), AllocError> {
+    fn go_on(&mut self, from: Thread, ways: &[Case]) -> Result<(), Full> {
         let mut alerted = from;
         alerted.set_alert();
         self.note(alerted)?;
@@ -129,7 +153,7 @@ impl Reached {
             if way.has(Thing::Flag) || way.has(Thing::Alerted) {
                 continue;
             }
-            if let Some((after, _)) = turned(from, sight(from, way)) {
+            if let Some((after, _)) = turned(from, sight(from, *way)) {
                 self.note(after)?;
             }
         }
@@ -145,7 +169,7 @@ impl Reached {
     pub(crate) fn find<F: Fn(Place) -> bool>(&self, asked: F) -> Option<Thread>
         requires { F.IsAlwaysCallable asked }
     {
-        let (_, thread) = self.records.iter().find(|(place, _)| asked(*place))?;
-        Some(*thread)
+        let visit = self.records.iter().find(|visit| asked(visit.place))?;
+        Some(visit.thread)
     }
 }

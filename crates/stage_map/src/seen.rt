@@ -1,14 +1,17 @@
 //! What a turn can look at, and cases over it.
-ghost use Rattle.std.specs.Prelude.{◌≡◌, ◌↔◌, IsTrue, Some, true, IfOk};
-ghost use Rattle.std.specs.BTreeMap.{get, IsEmpty, Updates};
+ghost use Rattle.std.specs.Prelude.{◌≡◌, ◌↔◌, IsTrue, None, Some, true};
+ghost use Rattle.stage_map.specs.Cases.{says, saying};
 
-use std::alloc::{AllocError, Global};
-use std::collections::BTreeMap;
+use crate::full::Full;
+use crate::text::*;
+use arrayvec::ArrayVec;
+use std::fmt;
 
 /// A thing that a turn can look at. Each is off or on.
-#[derive(Clone, Copy, PartialEq, Eq, PartialOrd, Ord)]
+#[derive(Clone, Copy, Default, PartialEq, Eq)]
 pub enum Thing {
-    /// The spin bit.
+    /// The spin bit. It stands where a list has no thing.
+    #[default]
     Spin,
     /// The bit of the gate.
     Bit,
@@ -48,48 +51,51 @@ impl Thing {
 }
 
 /// Some things off or on, the others either.
-#[derive(Drop, PartialEq, Eq)]
-pub struct Case(BTreeMap<Thing, bool>);
+#[derive(Clone, Copy, Default, PartialEq, Eq)]
+pub struct Case {
+    of: [Option<bool>; 6],
+}
+
+/// Cases, no more than there are ways in which a turn can see things.
+pub type Cases = ArrayVec<Case, 64>;
 
 impl Case {
     /// Whatever is seen.
-    pub(crate) fn always(alloc: Global) -> Case
-        ensures { IsEmpty result.0 }
+    pub(crate) fn always() -> Case
+        ensures { (thing : Thing) → says result thing ≡ None }
     {
-        Case(BTreeMap::new(alloc))
+        Case { of: [None; 6] }
     }
 
     /// The same with one thing off or on.
-    pub(crate) fn with(&self, thing: Thing, on: bool) -> Result<Case, AllocError>
-        ensures { IfOk result (λ case. Updates ⟦<Thing as Ord>⟧.cmp self.now.0 case.0 thing (Some on)) }
+    pub(crate) fn with(self, thing: Thing, on: bool) -> Case
+        ensures { result ≡ saying self thing on }
     {
-        let mut more = self.0.clone()?;
-        more.insert(thing, on)?;
-        Ok(Case(more))
+        let mut more = self;
+        more.of[thing as usize] = Some(on);
+        more
     }
 
-    fn at(&self, thing: Thing) -> Option<bool>
-        ensures { result ≡ get ⟦<Thing as Ord>⟧.cmp self.now.0 thing }
+    fn at(self, thing: Thing) -> Option<bool>
+        ensures { result ≡ says self thing }
     {
-        self.0.get(&thing).copied()
+        self.of[thing as usize]
     }
 
     /// Whether it says that a thing is on.
-    pub(crate) fn has(&self, thing: Thing) -> bool
-        ensures { IsTrue result ↔ (get ⟦<Thing as Ord>⟧.cmp self.now.0 thing ≡ Some true) }
+    pub(crate) fn has(self, thing: Thing) -> bool
+        ensures { IsTrue result ↔ (says self thing ≡ Some true) }
     {
         self.at(thing) == Some(true)
     }
 
     /// Whether another case says all that this one says.
-    pub(crate) fn fits(&self, other: &Case) -> bool {
-        self.0
-            .iter()
-            .all(|(thing, on)| other.at(*thing) == Some(*on))
+    pub(crate) fn fits(self, other: Case) -> bool {
+        THINGS.iter().all(|thing| self.at(*thing).is_none() || other.at(*thing) == self.at(*thing))
     }
 
     /// The one thing that another case says is on and this one says is off, where they say the same of all others.
-    pub(crate) fn turns_on(&self, other: &Case) -> Option<Thing> {
+    pub(crate) fn turns_on(self, other: Case) -> Option<Thing> {
         let mut turned = None;
         for thing in THINGS {
             let (off, on) = (self.at(thing), other.at(thing));
@@ -104,28 +110,32 @@ impl Case {
     }
 
     /// What both say.
-    pub(crate) fn common(&self, other: &Case) -> Result<Case, AllocError> {
-        let mut both = self.0.clone()?;
-        both.retain(|thing, on| other.at(*thing) == Some(*on));
-        Ok(Case(both))
+    pub(crate) fn common(self, other: Case) -> Case {
+        let mut both = Case::always();
+        for thing in THINGS {
+            if let Some(on) = self.at(thing) {
+                if other.at(thing) == Some(on) {
+                    both = both.with(thing, on);
+                }
+            }
+        }
+        both
     }
 
     /// All cases split by each thing in turn that tells of the case so far.
-    pub(crate) fn split<F: Fn(&Case, Thing) -> bool>(
-        alloc: Global,
-        tells: F,
-    ) -> Result<Vec<Case>, AllocError>
+    pub(crate) fn split<F: Fn(Case, Thing) -> bool>(tells: F) -> Result<Cases, Full>
         requires { F.IsAlwaysCallable tells }
     {
-        let mut cases = vec![in alloc; Case::always(alloc)]?;
+        let mut cases = Cases::new();
+        cases.try_push(Case::always())?;
         for thing in THINGS {
-            let mut finer = Vec::new(alloc);
-            for case in cases {
-                if tells(&case, thing) {
-                    finer.push(case.with(thing, false)?)?;
-                    finer.push(case.with(thing, true)?)?;
+            let mut finer = Cases::new();
+            for case in &cases {
+                if tells(*case, thing) {
+                    finer.try_push(case.with(thing, false))?;
+                    finer.try_push(case.with(thing, true))?;
                 } else {
-                    finer.push(case)?;
+                    finer.try_push(*case)?;
                 }
             }
             cases = finer;
@@ -134,17 +144,18 @@ impl Case {
     }
 
     /// Its words.
-    pub(crate) fn words(&self, alloc: Global) -> Result<String, AllocError> {
-        let words: Vec<&str> = self
-            .0
-            .iter()
-            .map(|(thing, on)| thing.words(*on))
-            .collect(alloc)?;
-        words.as_slice().join(alloc, ", ")
+    pub(crate) fn words(self) -> Result<Line, fmt::Error> {
+        let mut line = Line::new();
+        for thing in THINGS {
+            if let Some(on) = self.at(thing) {
+                add_words(&mut line, thing.words(on))?;
+            }
+        }
+        Ok(line)
     }
 }
 
 /// All ways in which a turn can see things: the cases that leave none open.
-pub(crate) fn ways(alloc: Global) -> Result<Vec<Case>, AllocError> {
-    Case::split(alloc, |_, _| true)
+pub(crate) fn ways() -> Result<Cases, Full> {
+    Case::split(|_, _| true)
 }

@@ -2,10 +2,12 @@
 use crate::probe;
 use crate::reach::*;
 use crate::seen::*;
+use crate::text::*;
 use stages::call::Call;
 use stages::stage::Stage;
 use stages::step::Step;
-use std::alloc::{AllocError, Global};
+use std::fmt;
+use std::fmt::Write;
 use thread::record::Thread;
 
 // What a wait meets: another count at Compare, an alert, a signal that takes it at a stage. Nothing else is in its way.
@@ -23,14 +25,14 @@ const TURNS: usize = 20;
 
 impl Plan {
     // What its turns see: an empty line, and another count where it has one.
-    fn sees(self, alloc: Global) -> Result<Case, AllocError> {
-        Case::always(alloc)
-            .with(Thing::Empty, true)?
+    fn sees(self) -> Case {
+        Case::always()
+            .with(Thing::Empty, true)
             .with(Thing::Other, self.other)
     }
 
     // The record after its turn, with what the turn did, or after it is taken.
-    fn next(self, thread: Thread, seen: &Case) -> Option<(Thread, Option<Step>)> {
+    fn next(self, thread: Thread, seen: Case) -> Option<(Thread, Option<Step>)> {
         if self.taken_at == Some(thread.stage()) {
             return Some((taken(thread)?, None));
         }
@@ -40,7 +42,7 @@ impl Plan {
 }
 
 // A stage and the arrow from it, with the number of the action done.
-fn add_step(line: &mut String, stage: Stage, step: Option<Step>) -> Result<(), AllocError> {
+fn add_step(line: &mut Line, stage: Stage, step: Option<Step>) -> fmt::Result {
     match step {
         None => write!(line, "{stage:?} = taken => "),
         Some(step) => match step.action {
@@ -52,9 +54,9 @@ fn add_step(line: &mut String, stage: Stage, step: Option<Step>) -> Result<(), A
 
 // A plan walked, from Compare on; what comes before is the same in all. At the end stand what the last turn answered, and the
 // flag that is left.
-fn walk(alloc: Global, plan: Plan) -> Result<String, AllocError> {
-    let seen = plan.sees(alloc)?;
-    let mut line = String::new(alloc);
+fn walk(plan: Plan) -> Result<Line, fmt::Error> {
+    let seen = plan.sees();
+    let mut line = Line::new();
     let mut thread = Thread::new();
     thread.start(plan.call);
     if plan.alert {
@@ -63,7 +65,7 @@ fn walk(alloc: Global, plan: Plan) -> Result<String, AllocError> {
     let mut value = 0;
     for _ in 0..TURNS {
         let stage = thread.stage();
-        let Some((after, step)) = plan.next(thread, &seen) else {
+        let Some((after, step)) = plan.next(thread, seen) else {
             break;
         };
         if stage == Stage::Compare || !line.is_empty() {
@@ -122,12 +124,17 @@ const PLANS: [Plan; 6] = [
 ];
 
 /// The walks.
-pub(crate) fn text(alloc: Global) -> Result<String, AllocError> {
-    let mut text = String::from_str(alloc, "The same, walked from Compare on\n\n")?;
-    for plan in PLANS {
-        let title = plan.title;
-        let line = walk(alloc, plan)?;
-        writeln!(text, "  {title}:\n    {line}")?;
+#[derive(Clone, Copy)]
+pub struct Walks;
+
+impl fmt::Display for Walks {
+    fn fmt<W: fmt::Write>(&self, f: &mut fmt::Formatter<W>) -> fmt::Result {
+        f.write_str("The same, walked from Compare on\n\n")?;
+        for plan in PLANS {
+            let title = plan.title;
+            let line = walk(plan)?;
+            writeln!(f, "  {title}:\n    {line}")?;
+        }
+        Ok(())
     }
-    Ok(text)
 }
